@@ -1,0 +1,5 @@
+pub mod Clearance
+pub mod Lists
+pub mod Nets
+pub mod Ranges
+pub mod Zones
