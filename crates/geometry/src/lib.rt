@@ -1,14 +1,27 @@
 // What lies on a panel: points, rectangles, pieces and the zones round them.
+mod gaps;
+mod cases;
 mod class;
+mod laws;
+mod measures;
+mod net;
 mod piece;
 mod point;
 mod question;
 mod rect;
+mod zone;
 
+pub use gaps::apart;
+pub use cases::worked_zones_hold;
 pub use class::Class;
+pub use laws::clearance_laws;
+pub use net::different_nets;
 pub use piece::Mark;
 pub use piece::Piece;
 pub use point::Point;
 pub use question::Question;
 pub use rect::Rect;
 pub use rect::Span;
+pub use zone::in_way;
+pub use zone::zone_axis;
+pub use zone::zone_meets;
