@@ -1,8 +1,10 @@
 // Jobs as text: what their lines say, and what is answered.
+mod forms;
 mod lines;
 mod number;
 mod reader;
 mod scan;
+mod sentences;
 mod words;
 
 pub use lines::Line;

@@ -1,11 +1,9 @@
--- The number, the level and the returned number of every refusal. Assumes nothing.
+-- The number, the level and the returned number of each refusal of a call and of a setting. Assumes nothing.
 use Prim.Native.Nat.{ℕ}
 use Rattle.panel.specs.declared.refusal.Refusal.{Refusal}
 use Rattle.panel.specs.declared.refusal.Refusal.the-variants.{LayerRange, ClassUnset, NetRange, OffPanel, SamePoint, TooFewPlaces, InTheWay, NoSuchJob, ShortCoordinates, TooManyLines, ShortNodes, NoPath, ShortPath, JobsUsedUp}
 use Rattle.panel.specs.declared.refusal.SheetRefusal.{SheetRefusal}
 use Rattle.panel.specs.declared.refusal.SheetRefusal.the-variants as sheet
-use Rattle.panel.specs.declared.refusal.Refused.{Refused}
-use Rattle.panel.specs.declared.refusal.Refused.the-variants.{ByJob, BySheet, ByPanel}
 use Rattle.panel.specs.declared.refusal.Level.{Level}
 use Rattle.panel.specs.declared.refusal.Level.the-variants as level
 use Rattle.panel.specs.declared.refusal.Shown.{Shown}
@@ -33,8 +31,3 @@ abbrev pub shown-of-sheet : SheetRefusal → Shown
 shown-of-sheet sheet.Size = row 1 level.Sheet 0
 shown-of-sheet (sheet.Prices e) = row 2 level.Sheet 0
 shown-of-sheet sheet.Class = row 3 level.Sheet 0
-
-abbrev pub shown : Refused → Shown
-shown (ByJob place) = row 16 level.Job place
-shown (BySheet e) = shown-of-sheet e
-shown (ByPanel e) = shown-of-call e

@@ -5,7 +5,6 @@ mod sheet;
 
 pub use refusal::Level;
 pub use refusal::Refusal;
-pub use refusal::Refused;
 pub use refusal::SheetRefusal;
 pub use refusal::Shown;
 pub use sheet::Sheet;

@@ -1,6 +1,6 @@
-// Why a line of a job is refused, and what is shown of it.
+// Why a call or a setting is refused, and what is shown of it.
 ghost use mathlib.Core.Path.{_≡_};
-ghost use Rattle.panel.specs.Refusals.{row, shown, shown-of-call, shown-of-sheet};
+ghost use Rattle.panel.specs.Refusals.{row, shown-of-call, shown-of-sheet};
 use costs::RowRefusal;
 use costs::RowRefusalDebug;
 use costs::RowRefusalPartialEq;
@@ -32,14 +32,6 @@ pub enum SheetRefusal {
     Class,
 }
 
-/// Why a line is refused: it cannot be read or is out of turn, with the place, or what it says is turned down.
-#[derive(Clone, Copy, PartialEq, Debug)]
-pub enum Refused {
-    ByJob(u32),
-    BySheet(SheetRefusal),
-    ByPanel(Refusal),
-}
-
 /// Where a refusal arises.
 #[derive(Clone, Copy, PartialEq, Debug)]
 pub enum Level {
@@ -53,17 +45,19 @@ pub enum Level {
 pub struct Shown {
     pub number: u32,
     pub level: Level,
-    pub returned: u32,
+    pub returned: u64,
 }
 
-// What is shown of a refusal by a check of a panel.
-fn row(level: Level, number: u32, returned: u32) -> Shown
-    ensures { λ r. ⌜ r ≡ row number level returned ⌝ }
-{
-    Shown {
-        number,
-        level,
-        returned,
+impl Shown {
+    /// A refusal by these three.
+    pub fn new(level: Level, number: u32, returned: u64) -> Shown
+        ensures { λ r. ⌜ r ≡ row number level returned ⌝ }
+    {
+        Shown {
+            number,
+            level,
+            returned,
+        }
     }
 }
 
@@ -73,20 +67,20 @@ impl Refusal {
         ensures { λ r. ⌜ r ≡ shown-of-call (now (self .entry)) ⌝ }
     {
         match *self {
-            Refusal::LayerRange => row(Level::Panel, 2, 0),
-            Refusal::ClassUnset => row(Level::Panel, 3, 0),
-            Refusal::NetRange => row(Level::Panel, 4, 0),
-            Refusal::OffPanel => row(Level::Panel, 5, 0),
-            Refusal::SamePoint => row(Level::Panel, 6, 0),
-            Refusal::TooFewPlaces(pieces) => row(Level::Panel, 7, pieces),
-            Refusal::InTheWay(job) => row(Level::Panel, 8, job),
-            Refusal::NoSuchJob => row(Level::Panel, 9, 0),
-            Refusal::ShortCoordinates(needed) => row(Level::Panel, 10, needed),
-            Refusal::TooManyLines => row(Level::Panel, 11, 0),
-            Refusal::ShortNodes(nodes) => row(Level::Panel, 12, nodes),
-            Refusal::NoPath => row(Level::Panel, 13, 0),
-            Refusal::ShortPath(points) => row(Level::Panel, 14, points),
-            Refusal::JobsUsedUp => row(Level::Panel, 15, 0),
+            Refusal::LayerRange => Shown::new(Level::Panel, 2, 0),
+            Refusal::ClassUnset => Shown::new(Level::Panel, 3, 0),
+            Refusal::NetRange => Shown::new(Level::Panel, 4, 0),
+            Refusal::OffPanel => Shown::new(Level::Panel, 5, 0),
+            Refusal::SamePoint => Shown::new(Level::Panel, 6, 0),
+            Refusal::TooFewPlaces(pieces) => Shown::new(Level::Panel, 7, pieces as u64),
+            Refusal::InTheWay(job) => Shown::new(Level::Panel, 8, job as u64),
+            Refusal::NoSuchJob => Shown::new(Level::Panel, 9, 0),
+            Refusal::ShortCoordinates(needed) => Shown::new(Level::Panel, 10, needed as u64),
+            Refusal::TooManyLines => Shown::new(Level::Panel, 11, 0),
+            Refusal::ShortNodes(nodes) => Shown::new(Level::Panel, 12, nodes as u64),
+            Refusal::NoPath => Shown::new(Level::Panel, 13, 0),
+            Refusal::ShortPath(points) => Shown::new(Level::Panel, 14, points as u64),
+            Refusal::JobsUsedUp => Shown::new(Level::Panel, 15, 0),
         }
     }
 }
@@ -97,22 +91,9 @@ impl SheetRefusal {
         ensures { λ r. ⌜ r ≡ shown-of-sheet (now (self .entry)) ⌝ }
     {
         match *self {
-            SheetRefusal::Size => row(Level::Sheet, 1, 0),
-            SheetRefusal::Prices(_) => row(Level::Sheet, 2, 0),
-            SheetRefusal::Class => row(Level::Sheet, 3, 0),
-        }
-    }
-}
-
-impl Refused {
-    /// What is shown of a refusal.
-    pub fn shown(&self) -> Shown
-        ensures { λ r. ⌜ r ≡ shown (now (self .entry)) ⌝ }
-    {
-        match *self {
-            Refused::ByJob(place) => row(Level::Job, 16, place),
-            Refused::BySheet(refusal) => refusal.shown(),
-            Refused::ByPanel(refusal) => refusal.shown(),
+            SheetRefusal::Size => Shown::new(Level::Sheet, 1, 0),
+            SheetRefusal::Prices(_) => Shown::new(Level::Sheet, 2, 0),
+            SheetRefusal::Class => Shown::new(Level::Sheet, 3, 0),
         }
     }
 }
