@@ -12,6 +12,7 @@ use Rattle.std.specs.declared.option.Option.the-variants.{None, Some}
 use Rattle.std.specs.declared.result.Result.{Result}
 use Rattle.std.specs.declared.result.Result.the-variants.{Ok, Err}
 use Rattle.std.specs.shelf.Text.{sameBytes}
+use Rattle.panel.specs.declared.calls.Placement.{Placement}
 use Rattle.job.specs.declared.reader.Unreadable.{Unreadable}
 use Rattle.job.specs.declared.forms.Verb.{Verb}
 use Rattle.job.specs.declared.forms.Verb.the-variants.{Panel, Layer, Class, Open, Place, Lift, Quote, Connect}
@@ -69,3 +70,18 @@ layer-line end ws =
 abbrev pub class-line : ℕ → List Word-at → Result ClassLine Unreadable
 class-line end ws =
     then-read (read-all 4 end ws) (λ ns. Ok (record { number = getD ns 0 0; half = getD ns 1 0; space = getD ns 2 0; pad = getD ns 3 0 }))
+
+abbrev pub place-line : ℕ → List Word-at → Result Placement Unreadable
+place-line end ws =
+    then-read (read-all 7 end ws) (λ ns. Ok (record {
+      layer = getD ns 0 0;
+      x1 = getD ns 1 0;
+      y1 = getD ns 2 0;
+      x2 = getD ns 3 0;
+      y2 = getD ns 4 0;
+      net = getD ns 5 0;
+      space = getD ns 6 0;
+    }))
+
+abbrev pub lift-line : ℕ → List Word-at → Result ℕ Unreadable
+lift-line end ws = then-read (read-all 1 end ws) (λ ns. Ok (getD ns 0 0))

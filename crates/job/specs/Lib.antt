@@ -1,4 +1,6 @@
 pub mod Forms
 pub mod Numbers
 pub mod Reading
+pub mod Refused
+pub mod Stages
 pub mod Text

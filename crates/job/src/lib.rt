@@ -3,8 +3,10 @@ mod forms;
 mod lines;
 mod number;
 mod reader;
+mod refused;
 mod scan;
 mod sentences;
+mod setup;
 mod words;
 
 pub use lines::Line;

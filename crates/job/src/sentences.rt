@@ -2,7 +2,7 @@
 ghost use mathlib.Core.Path.{_≡_};
 ghost use lib.ListN.{length};
 ghost use Rattle.job.specs.Reading.{left};
-ghost use Rattle.job.specs.Forms.{verb, read-all, panel-line, layer-line, class-line};
+ghost use Rattle.job.specs.Forms.{verb, read-all, panel-line, layer-line, class-line, place-line, lift-line};
 use crate::forms::ClassLine;
 use crate::forms::CostChoice;
 use crate::forms::LayerLine;
@@ -12,6 +12,7 @@ use crate::forms::Verb;
 use crate::reader::Unreadable;
 use crate::reader::WordReader;
 use crate::scan::spells;
+use panel::Placement;
 
 /// The kind of a line that begins with this word.
 pub fn read_verb(word: &[u8]) -> Option<Verb>
@@ -91,4 +92,28 @@ pub fn read_class(words: &mut WordReader<'_>) -> Result<ClassLine, Unreadable>
         space,
         pad,
     })
+}
+
+/// The words behind `place`: a layer, a rectangle, a net and a space.
+pub fn read_place(words: &mut WordReader<'_>) -> Result<Placement, Unreadable>
+    ensures { λ r. ⌜ r ≡ place-line (length (now (now (words .entry) .line))) (left (now (words .entry))) ⌝ }
+{
+    let [layer, x1, y1, x2, y2, net, space] = read_all::<7>(words)?;
+    Ok(Placement {
+        layer,
+        x1,
+        y1,
+        x2,
+        y2,
+        net,
+        space,
+    })
+}
+
+/// The word behind `lift`: a job number.
+pub fn read_lift(words: &mut WordReader<'_>) -> Result<u32, Unreadable>
+    ensures { λ r. ⌜ r ≡ lift-line (length (now (now (words .entry) .line))) (left (now (words .entry))) ⌝ }
+{
+    let [job] = read_all::<1>(words)?;
+    Ok(job)
 }

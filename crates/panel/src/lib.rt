@@ -1,10 +1,21 @@
 // A panel, from the sheet that it is opened from to the calls on it.
+mod calls;
 mod refusal;
 mod settings;
 mod sheet;
 
+pub use calls::Call;
+pub use calls::Placement;
 pub use refusal::Level;
+pub use refusal::LevelDebug;
+pub use refusal::LevelPartialEq;
 pub use refusal::Refusal;
+pub use refusal::RefusalDebug;
+pub use refusal::RefusalPartialEq;
 pub use refusal::SheetRefusal;
+pub use refusal::SheetRefusalDebug;
+pub use refusal::SheetRefusalPartialEq;
 pub use refusal::Shown;
+pub use refusal::ShownDebug;
+pub use refusal::ShownPartialEq;
 pub use sheet::Sheet;
