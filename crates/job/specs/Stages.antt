@@ -1,8 +1,7 @@
--- Which line is in turn at which stage of a job, what it comes to and which stage follows. Assumes nothing.
+-- Which line is in turn at which stage of a job, and what it comes to. Assumes nothing.
 --     in-turn stage verb       lines of this kind are in turn
 --     line-says verb ..        what the words behind the first one come to: nothing more, a call, or a refusal
 --     answer-of stage bytes    what a line comes to at a stage
---     stage-after stage bytes  the stage behind it
 use mathlib.Core.Bool.{Bool, true, false, cond}
 use mathlib.Core.List.{List, [], _∷_}
 use Prim.Native.Nat.{ℕ}
@@ -93,22 +92,3 @@ by-words s end (w ∷ ws) = by-verb s (verb (w .bytes)) end ws
 -- A line of more than 80 bytes is refused whatever it says.
 abbrev pub answer-of : Stage → List ℕ → Result (Option Call) Refused
 answer-of s bytes = cond (ltb 80 (length bytes)) (refused-at 80) (by-words s (length bytes) (words 0 bytes))
-
--- An accepted panel line and an accepted open line lead on to the next stage.
-abbrev pub led-on : Stage → Option Verb → Stage
-led-on s None = s
-led-on s (Some verbs.Panel) = stages.Setup
-led-on s (Some verbs.Open) = stages.Open
-led-on s (Some verbs.Layer) = s
-led-on s (Some verbs.Class) = s
-led-on s (Some verbs.Place) = s
-led-on s (Some verbs.Lift) = s
-led-on s (Some verbs.Quote) = s
-led-on s (Some verbs.Connect) = s
-
-abbrev pub first-verb : List Word-at → Option Verb
-first-verb [] = None
-first-verb (w ∷ ws) = verb (w .bytes)
-
-abbrev pub stage-after : Stage → List ℕ → Stage
-stage-after s bytes = elim (answer-of s bytes) [ Ok o ↦ led-on s (first-verb (words 0 bytes)) | Err e ↦ s ]

@@ -7,6 +7,7 @@ mod refused;
 mod scan;
 mod sentences;
 mod setup;
+mod steps;
 mod words;
 
 pub use lines::Line;
