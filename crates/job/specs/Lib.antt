@@ -2,6 +2,8 @@ pub mod Forms
 pub mod Numbers
 pub mod Reading
 pub mod Refused
+pub mod Said
+pub mod Scripts
 pub mod Settings
 pub mod Stages
 pub mod Text

@@ -1,4 +1,4 @@
--- What an accepted line of a job sets, and the stage behind it. Assumes nothing.
+-- What an accepted line of a job sets. Assumes nothing.
 use mathlib.Core.Path.{_≡_}
 use mathlib.Core.List.{List, [], _∷_}
 use Prim.Native.Nat.{ℕ}
@@ -13,7 +13,6 @@ use Rattle.job.specs.declared.forms.PanelLine.{PanelLine}
 use Rattle.job.specs.declared.forms.LayerLine.{LayerLine}
 use Rattle.job.specs.declared.forms.ClassLine.{ClassLine}
 use Rattle.job.specs.declared.setup.Setup.{Setup}
-use Rattle.job.specs.declared.setup.Stage.the-variants as stages
 use Rattle.job.specs.Text.{Word-at, words}
 use Rattle.job.specs.Forms.{verb, panel-line, layer-line, class-line}
 
@@ -42,17 +41,16 @@ pub record Class-set (before : Setup) (l : ClassLine) (after : Setup) : Type 0 w
   pub cost-is : after .cost ≡ before .cost
   pub register-is : after .register ≡ before .register
 
--- What the words behind the first one set, where the line is accepted. An accepted panel line and an accepted open line lead on
--- to the next stage.
+-- what the words behind the first one set, where the line is accepted
 abbrev pub Line-set : Verb → ℕ → List Word-at → Setup → Setup → Type 0
-Line-set verbs.Panel end ws s t = (t .stage ≡ stages.Setup) × made (panel-line end ws) (λ l. Panel-set s l t)
-Line-set verbs.Layer end ws s t = (t .stage ≡ s .stage) × made (layer-line end ws) (λ l. Layer-set s l t)
-Line-set verbs.Class end ws s t = (t .stage ≡ s .stage) × made (class-line end ws) (λ l. Class-set s l t)
-Line-set verbs.Open end ws s t = (t .stage ≡ stages.Open) × Settings-stay s t
-Line-set verbs.Place end ws s t = t ≡ s
-Line-set verbs.Lift end ws s t = t ≡ s
-Line-set verbs.Quote end ws s t = t ≡ s
-Line-set verbs.Connect end ws s t = t ≡ s
+Line-set verbs.Panel end ws s t = made (panel-line end ws) (λ l. Panel-set s l t)
+Line-set verbs.Layer end ws s t = made (layer-line end ws) (λ l. Layer-set s l t)
+Line-set verbs.Class end ws s t = made (class-line end ws) (λ l. Class-set s l t)
+Line-set verbs.Open end ws s t = Settings-stay s t
+Line-set verbs.Place end ws s t = Settings-stay s t
+Line-set verbs.Lift end ws s t = Settings-stay s t
+Line-set verbs.Quote end ws s t = Settings-stay s t
+Line-set verbs.Connect end ws s t = Settings-stay s t
 
 -- the same by all words of the line
 abbrev pub Words-set : ℕ → List Word-at → Setup → Setup → Type 0

@@ -1,7 +1,8 @@
--- Which line is in turn at which stage of a job, and what it comes to. Assumes nothing.
+-- Which line is in turn at which stage of a job, what it comes to and which stage follows. Assumes nothing.
 --     in-turn stage verb       lines of this kind are in turn
 --     line-says verb ..        what the words behind the first one come to: nothing more, a call, or a refusal
 --     answer-of stage bytes    what a line comes to at a stage
+--     stage-after stage bytes  the stage behind it
 use mathlib.Core.Bool.{Bool, true, false, cond}
 use mathlib.Core.List.{List, [], _∷_}
 use Prim.Native.Nat.{ℕ}
@@ -92,3 +93,21 @@ by-words s end (w ∷ ws) = by-verb s (verb (w .bytes)) end ws
 -- A line of more than 80 bytes is refused whatever it says.
 abbrev pub answer-of : Stage → List ℕ → Result (Option Call) Refused
 answer-of s bytes = cond (ltb 80 (length bytes)) (refused-at 80) (by-words s (length bytes) (words 0 bytes))
+
+-- An accepted panel line and an accepted open line lead on to the next stage.
+abbrev pub led-on : Stage → Verb → Stage
+led-on s verbs.Panel = stages.Setup
+led-on s verbs.Layer = s
+led-on s verbs.Class = s
+led-on s verbs.Open = stages.Open
+led-on s verbs.Place = s
+led-on s verbs.Lift = s
+led-on s verbs.Quote = s
+led-on s verbs.Connect = s
+
+abbrev pub led-on-by : Stage → List Word-at → Stage
+led-on-by s [] = s
+led-on-by s (w ∷ ws) = elim (verb (w .bytes)) [ None ↦ s | Some v ↦ led-on s v ]
+
+abbrev pub stage-after : Stage → List ℕ → Stage
+stage-after s bytes = elim (answer-of s bytes) [ Ok o ↦ led-on-by s (words 0 bytes) | Err e ↦ s ]

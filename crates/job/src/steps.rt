@@ -2,10 +2,12 @@
 ghost use mathlib.Core.Path.{_≡_};
 ghost use lib.ListN.{length};
 ghost use Rattle.std.specs.Results.{Cases as ByOk};
+ghost use Rattle.std.specs.Vec.{made};
 ghost use Rattle.job.specs.declared.forms.Verb.the-variants as verbs;
+ghost use Rattle.job.specs.Text.{words};
 ghost use Rattle.job.specs.Reading.{left};
 ghost use Rattle.std.specs.declared.option.Option.the-variants.{None, Some};
-ghost use Rattle.job.specs.Stages.{line-says, by-verb, answer-of};
+ghost use Rattle.job.specs.Stages.{line-says, by-verb, answer-of, led-on, led-on-by};
 ghost use Rattle.job.specs.Settings.{Line-set, Set-by};
 use crate::forms::Verb;
 use crate::reader::LINE_BYTES;
@@ -30,6 +32,7 @@ impl Setup {
     fn set_panel(&mut self, words: &mut WordReader<'_>) -> Result<Option<Call>, Refused>
         ensures answer { λ r. ⌜ r ≡ line-says verbs.Panel (length (now (now (words .entry) .line))) (left (now (words .entry))) ⌝ }
         ensures set { λ r. ⌜ ByOk r (λ _. Line-set verbs.Panel (length (now (now (words .entry) .line))) (left (now (words .entry))) (now (self .entry)) (now (self .exit))) (λ _. now (self .exit) ≡ now (self .entry)) ⌝ }
+        ensures stage { λ r. ⌜ made r (λ _. now (self .exit) .stage ≡ led-on (now (self .entry) .stage) verbs.Panel) ⌝ }
     {
         let line = read_panel(words)?;
         self.sheet.set_size(line.width, line.height, line.layers)?;
@@ -43,6 +46,7 @@ impl Setup {
     fn set_layer(&mut self, words: &mut WordReader<'_>) -> Result<Option<Call>, Refused>
         ensures answer { λ r. ⌜ r ≡ line-says verbs.Layer (length (now (now (words .entry) .line))) (left (now (words .entry))) ⌝ }
         ensures set { λ r. ⌜ ByOk r (λ _. Line-set verbs.Layer (length (now (now (words .entry) .line))) (left (now (words .entry))) (now (self .entry)) (now (self .exit))) (λ _. now (self .exit) ≡ now (self .entry)) ⌝ }
+        ensures stage { λ r. ⌜ made r (λ _. now (self .exit) .stage ≡ led-on (now (self .entry) .stage) verbs.Layer) ⌝ }
     {
         let line = read_layer(words)?;
         if let Err(e) = self.prices.set(line.layer, line.u, line.v, line.t) {
@@ -55,6 +59,7 @@ impl Setup {
     fn set_class(&mut self, words: &mut WordReader<'_>) -> Result<Option<Call>, Refused>
         ensures answer { λ r. ⌜ r ≡ line-says verbs.Class (length (now (now (words .entry) .line))) (left (now (words .entry))) ⌝ }
         ensures set { λ r. ⌜ ByOk r (λ _. Line-set verbs.Class (length (now (now (words .entry) .line))) (left (now (words .entry))) (now (self .entry)) (now (self .exit))) (λ _. now (self .exit) ≡ now (self .entry)) ⌝ }
+        ensures stage { λ r. ⌜ made r (λ _. now (self .exit) .stage ≡ led-on (now (self .entry) .stage) verbs.Class) ⌝ }
     {
         let line = read_class(words)?;
         self.sheet.set_class(line.number, line.half, line.space, line.pad)?;
@@ -65,6 +70,7 @@ impl Setup {
     fn open(&mut self, words: &mut WordReader<'_>) -> Result<Option<Call>, Refused>
         ensures answer { λ r. ⌜ r ≡ line-says verbs.Open (length (now (now (words .entry) .line))) (left (now (words .entry))) ⌝ }
         ensures set { λ r. ⌜ ByOk r (λ _. Line-set verbs.Open (length (now (now (words .entry) .line))) (left (now (words .entry))) (now (self .entry)) (now (self .exit))) (λ _. now (self .exit) ≡ now (self .entry)) ⌝ }
+        ensures stage { λ r. ⌜ made r (λ _. now (self .exit) .stage ≡ led-on (now (self .entry) .stage) verbs.Open) ⌝ }
     {
         words.finish()?;
         self.stage = Stage::Open;
@@ -75,6 +81,7 @@ impl Setup {
     fn take_line(&mut self, verb: Verb, words: &mut WordReader<'_>) -> Result<Option<Call>, Refused>
         ensures answer { λ r. ⌜ r ≡ by-verb (now (self .entry) .stage) (Some verb) (length (now (now (words .entry) .line))) (left (now (words .entry))) ⌝ }
         ensures set { λ r. ⌜ ByOk r (λ _. Line-set verb (length (now (now (words .entry) .line))) (left (now (words .entry))) (now (self .entry)) (now (self .exit))) (λ _. now (self .exit) ≡ now (self .entry)) ⌝ }
+        ensures stage { λ r. ⌜ made r (λ _. now (self .exit) .stage ≡ led-on (now (self .entry) .stage) verb) ⌝ }
     {
         match (self.stage, verb) {
             (Stage::Start, Verb::Panel) => self.set_panel(words),
@@ -91,6 +98,7 @@ impl Setup {
     pub fn line(&mut self, text: &[u8]) -> Result<Option<Call>, Refused>
         ensures answer { λ r. ⌜ r ≡ answer-of (now (self .entry) .stage) (now (text .entry)) ⌝ }
         ensures set { λ r. ⌜ ByOk r (λ _. Set-by (now (text .entry)) (now (self .entry)) (now (self .exit))) (λ _. now (self .exit) ≡ now (self .entry)) ⌝ }
+        ensures stage { λ r. ⌜ made r (λ _. now (self .exit) .stage ≡ led-on-by (now (self .entry) .stage) (words 0 (now (text .entry)))) ⌝ }
     {
         if text.len() > LINE_BYTES {
             return Err(Refused::ByJob(Unreadable { place: LINE_BYTES }));
