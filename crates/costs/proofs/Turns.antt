@@ -1,5 +1,5 @@
 -- What one turn of doubling keeps. Assumes nothing.
-use mathlib.Core.Path.{_≡_, refl, sym, ap, _∙_, subst}
+use mathlib.Core.Path.{_≡_, refl, sym, ap, _∙_}
 use Prim.Native.Nat.{ℕ, zero, suc, _+_, _*_, _/_, _%_, _^_, _<_, _≤_}
 use native.Mathlib.Nat.{mul-add, add-mul, zero-mul, suc-mul, mul-le-mul-left, mul-le-mul-right}
 use native.Mathlib.Omega.{arith}
@@ -15,13 +15,15 @@ module _ {M : Type 0} {s : Sums M} (laws : Laws s) where
   ended : (t x : M) (k : ℕ) (whole : M) → s .plus t (times s k x) ≡ whole → k ≡ 0 → t ≡ whole
   ended t x k whole e none = sym (laws .neutral t) ∙ ap (λ n. s .plus t (times s n x)) (sym none) ∙ e
 
-  pub stands : (t x : M) (k : ℕ) (whole : M) (size : ℕ) → s .plus t (times s k x) ≡ whole → s .bulk t + k * s .bulk x ≤ size → Stands s t x k whole size
+  pub stands : (t x : M) (k : ℕ) (whole : M) (size : ℕ)
+      → s .plus t (times s k x) ≡ whole → s .bulk t + k * s .bulk x ≤ size → Stands s t x k whole size
   stands t x k whole size e b = (e, b, ended t x k whole e)
 
   -- y need be twice x only where it is added at all
   twice-times : (h : ℕ) (x y : M) → (0 < h → y ≡ s .plus x x) → times s h y ≡ times s (h + h) x
   twice-times zero x y e = refl
-  twice-times (suc h) x y e = ap (times s (suc h)) (e (omega arith)) ∙ times-plus laws (suc h) x x ∙ sym (times-add laws (suc h) (suc h) x)
+  twice-times (suc h) x y e =
+      ap (times s (suc h)) (e (omega arith)) ∙ times-plus laws (suc h) x x ∙ sym (times-add laws (suc h) (suc h) x)
 
   twice-bulk : (h : ℕ) (x y : M) → (0 < h → y ≡ s .plus x x) → h * s .bulk y ≤ (h + h) * s .bulk x
   twice-bulk zero x y e = omega (arith, zero-mul (s .bulk y))
@@ -57,4 +59,5 @@ module _ {M : Type 0} {s : Sums M} (laws : Laws s) where
       stands u y h whole size
       (ap (λ v. s .plus v (times s h y)) e′ ∙ laws .assoc t x (times s h y)
       ∙ ap (λ v. s .plus t (s .plus x v)) (twice-times h x y f′) ∙ ap (λ n. s .plus t (times s n x)) (sym double) ∙ held .0)
-      (omega (arith, held .1, ap (s .bulk) e′, laws .bulk-plus t x, twice-bulk h x y f′, ap (λ n. n * s .bulk x) double, suc-mul (h + h) (s .bulk x)))
+      (let one : k * s .bulk x ≡ (h + h) * s .bulk x + s .bulk x = ap (λ n. n * s .bulk x) double ∙ suc-mul (h + h) (s .bulk x) in
+      omega (arith, held .1, ap (s .bulk) e′, laws .bulk-plus t x, twice-bulk h x y f′))

@@ -10,13 +10,13 @@ use mathlib.Core.Logic.{_⊎_}
 use Prim.Native.Nat.{ℕ, zero, suc, _+_, _≤_}
 use lib.Dec.{T}
 
--- M is what amounts mean: one or more whole numbers without a ceiling
+-- M is what amounts mean, one or more whole numbers without a ceiling
 pub record Sums (M : Type 0) : Type 0 where
   pub nothing : M
   pub plus : M → M → M
   -- the first is not greater than the second
   pub leq : M → M → Bool
-  -- a whole number by which a machine knows whether it can add exactly
+  -- how large a meaning is: a machine adds exactly while two bulks together are below 2 ^ 62
   pub bulk : M → ℕ
 
 pub record Laws {M : Type 0} (s : Sums M) : Type 0 where

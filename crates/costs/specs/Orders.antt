@@ -45,16 +45,22 @@ abbrev Leq : ℕ × ℕ → ℕ × ℕ → Type 0
 Leq a b = (a .0 < b .0) ⊎ ((a .0 ≡ b .0) × (a .1 ≤ b .1))
 
 leq-says : (a b : ℕ × ℕ) → T (pair-leq a b) → Leq a b
-leq-says a b h = elim (or-says (ltb (a .0) (b .0)) (eqb (a .0) (b .0) && leb (a .1) (b .1)) h) [
-  | inl k ↦ inl (ltb→lt (a .0) (b .0) k)
-  | inr k ↦ let s = and-says (eqb (a .0) (b .0)) (leb (a .1) (b .1)) k in inr (eqb→eq (a .0) (b .0) (s .0), leb→le (a .1) (b .1) (s .1))
-]
+leq-says a b h =
+    let fewer = ltb (a .0) (b .0) in
+    let as-many = eqb (a .0) (b .0) in
+    let no-more = leb (a .1) (b .1) in
+    elim (or-says fewer (as-many && no-more) h) [
+      | inl k ↦ inl (ltb→lt (a .0) (b .0) k)
+      | inr k ↦ let s = and-says as-many no-more k in inr (eqb→eq (a .0) (b .0) (s .0), leb→le (a .1) (b .1) (s .1))
+    ]
 
 leq-from : (a b : ℕ × ℕ) → Leq a b → T (pair-leq a b)
 leq-from a b (inl h) = or-left (ltb (a .0) (b .0)) (eqb (a .0) (b .0) && leb (a .1) (b .1)) (lt→ltb (a .0) (b .0) h)
 leq-from a b (inr h) =
-    or-right (ltb (a .0) (b .0)) (eqb (a .0) (b .0) && leb (a .1) (b .1))
-    (both (eqb (a .0) (b .0)) (leb (a .1) (b .1)) (rw (h .0) (eqb-refl (b .0))) (le→leb (a .1) (b .1) (h .1)))
+    let as-many = eqb (a .0) (b .0) in
+    let no-more = leb (a .1) (b .1) in
+    or-right (ltb (a .0) (b .0)) (as-many && no-more)
+    (both as-many no-more (rw (h .0) (eqb-refl (b .0))) (le→leb (a .1) (b .1) (h .1)))
 
 either : (a b : ℕ × ℕ) → Leq a b ⊎ Leq b a
 either a b = elim (cases-order (a .0) (b .0)) [

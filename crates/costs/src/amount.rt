@@ -20,7 +20,8 @@ pub trait Amount: Copy {
 
     /// The sum, exact where the two bulks together are below `2 ^ 62` and free beyond.
     fn sum(self, other: Self) -> Self
-        ensures { λ r. ⌜ (sums .bulk (means self) + sums .bulk (means other) < 2 ^ 62 → means r ≡ sums .plus (means self) (means other)) ⌝ };
+        ensures { λ r. ⌜ (sums .bulk (means self) + sums .bulk (means other) < 2 ^ 62
+            → means r ≡ sums .plus (means self) (means other)) ⌝ };
 
     /// Whether this amount is not greater than the other.
     fn at_most(&self, other: &Self) -> bool

@@ -23,6 +23,7 @@ pub enum RowRefusal {
     Price,
 }
 
+/// Writes the three prices of one row.
 fn set_row(row: &mut Row, u: u16, v: u16, t: u32)
     ensures { λ _. ⌜ now (row .exit) ≡ record { u = u; v = v; t = t } ⌝ }
 {

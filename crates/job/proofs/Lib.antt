@@ -3,3 +3,4 @@ pub mod Digits
 pub mod Lefts
 pub mod Numbered
 pub mod Scans
+pub mod Tellings

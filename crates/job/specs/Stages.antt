@@ -109,5 +109,9 @@ abbrev pub led-on-by : Stage → List Word-at → Stage
 led-on-by s [] = s
 led-on-by s (w ∷ ws) = elim (verb (w .bytes)) [ None ↦ s | Some v ↦ led-on s v ]
 
+abbrev pub led-on-if : Stage → List Word-at → Result (Option Call) Refused → Stage
+led-on-if s ws (Ok o) = led-on-by s ws
+led-on-if s ws (Err e) = s
+
 abbrev pub stage-after : Stage → List ℕ → Stage
-stage-after s bytes = elim (answer-of s bytes) [ Ok o ↦ led-on-by s (words 0 bytes) | Err e ↦ s ]
+stage-after s bytes = led-on-if s (words 0 bytes) (answer-of s bytes)

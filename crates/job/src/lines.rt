@@ -1,7 +1,7 @@
 // The lines of a job.
 ghost use mathlib.Core.Path.{_≡_};
 ghost use mathlib.Core.List.{[], _∷_};
-ghost use Prim.Native.Nat.{_+_, min};
+ghost use Prim.Native.Nat.{_+_, _<_, _≤_, min};
 ghost use lib.ListN.{length, drop};
 ghost use Rattle.std.specs.Options.{Cases as BySome};
 ghost use Rattle.job.specs.Text.{lines};
@@ -34,6 +34,7 @@ impl<'a> LineReader<'a> {
     pub fn next_line(&mut self) -> Option<Line<'a>>
         ensures lines { λ r. ⌜ BySome r (lines (drop (now (self .entry) .next) (now (now (self .entry) .job))) ≡ []) (λ l. lines (drop (now (self .entry) .next) (now (now (self .entry) .job))) ≡ now (l .text) ∷ lines (drop (now (self .exit) .next) (now (now (self .entry) .job)))) ⌝ }
         ensures place { λ r. ⌜ BySome r (now (self .exit) .next ≡ now (self .entry) .next) (λ l. (l .place ≡ now (self .entry) .next) × (now (self .exit) .next ≡ min (l .place + length (now (l .text)) + 1) (length (now (now (self .entry) .job))))) ⌝ }
+        ensures further { λ r. ⌜ BySome r (Unit {0}) (λ _. (now (self .entry) .next < now (self .exit) .next) × (now (self .exit) .next ≤ length (now (now (self .entry) .job)))) ⌝ }
         ensures job { λ _. ⌜ now (now (self .exit) .job) ≡ now (now (self .entry) .job) ⌝ }
     {
         let place = self.next;

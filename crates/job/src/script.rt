@@ -65,3 +65,20 @@ fn note(said: &mut Vec<Said>, calls: &mut Vec<Call>, line: usize, answer: Result
     }
     Ok(())
 }
+
+/// Reads a job.
+pub fn read_job(heap: Global, job: &[u8]) -> Result<Script, AllocError>
+    ensures { λ r. ⌜ made r (λ s. Read (now (job .entry)) s) ⌝ }
+{
+    let mut setup = Setup::new();
+    let mut said = Vec::new(heap);
+    let mut calls = Vec::new(heap);
+    let mut reader = LineReader::new(job);
+    let mut number = 0;
+    while let Some(line) = reader.next_line() {
+        number += 1;
+        let answer = setup.line(line.text);
+        note(&mut said, &mut calls, number, answer)?;
+    }
+    Ok(Script { setup, said, calls })
+}

@@ -22,15 +22,16 @@ loop-rest-again g c small =
     let m = g .C·Amount in
     let total = m .means (c .loop-rest .total) in
     let unit = m .means (c .loop-rest .unit) in
+    let added = m .means (c .if-rest-eq1 .total) in
     let doubled = m .means (c .sum-unit .result) in
     let amount = m .means (c .args .amount) in
     let whole = times (m .sums) (c .args .k) amount in
     let size = c .args .k * m .sums .bulk amount in
     elim (c .if-rest-eq1 .came) [
       | then-rest-eq1 w ↦
-          odd-turn (m .laws) total unit (m .means (c .if-rest-eq1 .total)) doubled (c .loop-rest .rest) whole size (w .if-rest-eq1 .taken) small
+          odd-turn (m .laws) total unit added doubled (c .loop-rest .rest) whole size (w .if-rest-eq1 .taken) small
           (λ fits. ap (m .means) (w .total-is) ∙ w .sum-total .ensures fits) (c .sum-unit .ensures) (c .loop-rest .inv small)
       | else-rest-eq1 w ↦
-          even-turn (m .laws) total unit (m .means (c .if-rest-eq1 .total)) doubled (c .loop-rest .rest) whole size (omega arith) small
+          even-turn (m .laws) total unit added doubled (c .loop-rest .rest) whole size (omega arith) small
           (ap (m .means) (w .total-is)) (c .sum-unit .ensures) (c .loop-rest .inv small)
     ]

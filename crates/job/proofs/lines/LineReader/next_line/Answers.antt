@@ -12,6 +12,7 @@ pub returns-then-place-self : need.returns-then-place-self
 returns-then-place-self c = record {
   lines = rw (drop-all (c .args .self .now .next) (c .args .self .now .job .now) (c .if-place-self .taken));
   place = refl;
+  further = tt;
   job = refl;
 }
 
@@ -30,5 +31,6 @@ returns c =
     record {
       lines = rw (text, c .min-self .ensures) (lines-from job at n (c .if-place-self .left) is);
       place = (refl, omega (arith, long, c .min-self .ensures));
+      further = (omega (arith, c .min-self .ensures), omega (arith, c .min-self .ensures));
       job = refl;
     }
