@@ -7,3 +7,4 @@ pub mod Scripts
 pub mod Settings
 pub mod Stages
 pub mod Text
+pub mod Written

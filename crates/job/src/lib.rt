@@ -10,6 +10,7 @@ mod script;
 mod sentences;
 mod setup;
 mod steps;
+mod text;
 mod words;
 
 pub use lines::Line;
