@@ -4,7 +4,7 @@ use mathlib.Core.Bool.{Bool, true, false, not, _&&_, _||_}
 use Prim.Native.Nat.{ℕ, _+_, max}
 use native.Mathlib.Omega.{arith}
 use borrow.Author.Differences.{ints}
-use lib.Dec.{eqb, ltb}
+use lib.Dec.{eqb}
 use lib.IntN.{ℤ, pos, _+ℤ_, _-ℤ_}
 use lib.Signed.{ltZ, leZ}
 use Rattle.std.proofs.shelf.Ways.{tells}
@@ -44,7 +44,8 @@ apart-is-unmet g a b =
     ∙ ap (λ t. not (crosses (widened g (a .x)) (b .x)) || t) (along-is-uncrossed g (a .y) (b .y))
     ∙ sym (not-and (crosses (widened g (a .x)) (b .x)) (crosses (widened g (a .y)) (b .y)))
 
-pub apart-is-outside : (p q : Piece) → apart (max (p .space) (q .space)) (p .rect) (q .rect) ≡ not (meets (zone p 0 (q .space)) (q .rect))
+pub apart-is-outside : (p q : Piece)
+    → apart (max (p .space) (q .space)) (p .rect) (q .rect) ≡ not (meets (zone p 0 (q .space)) (q .rect))
 apart-is-outside p q =
     let same : max (p .space) (q .space) ≡ 0 + max (q .space) (p .space) = omega arith in
     ap (λ d. apart d (p .rect) (q .rect)) same ∙ apart-is-unmet (0 + max (q .space) (p .space)) (p .rect) (q .rect)

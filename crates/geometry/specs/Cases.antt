@@ -19,20 +19,20 @@ use Rattle.geometry.specs.Clearance.{keep-clear}
 use Rattle.geometry.specs.Laws.{room-of}
 
 -- from x1, y1 to x2, y2
-abbrev pub rect : ℤ → ℤ → ℤ → ℤ → Rect
-rect x1 y1 x2 y2 = record { x = record { low = x1; high = x2 }; y = record { low = y1; high = y2 } }
+abbrev pub rectangle : ℤ → ℤ → ℤ → ℤ → Rect
+rectangle x1 y1 x2 y2 = record { x = record { low = x1; high = x2 }; y = record { low = y1; high = y2 } }
 
 abbrev pub keep-out : Piece
-keep-out = record { layer = 1; rect = rect (pos 40) (pos 0) (pos 50) (pos 60); net = 0; space = 0; job = 1; mark = Placed }
+keep-out = record { layer = 1; rect = rectangle (pos 40) (pos 0) (pos 50) (pos 60); net = 0; space = 0; job = 1; mark = Placed }
 
 abbrev pub thin : Class
 thin = record { half = 2; space = 3; pad = 3; measured = tt }
 
 abbrev pub wire : Piece
-wire = record { layer = 1; rect = rect (pos 0) (pos 0) (pos 10) (pos 10); net = 7; space = thin .space; job = 1; mark = Laid }
+wire = record { layer = 1; rect = rectangle (pos 0) (pos 0) (pos 10) (pos 10); net = 7; space = thin .space; job = 1; mark = Laid }
 
 abbrev pub beside : ℕ → Piece
-beside g = record { layer = 1; rect = rect (pos (10 + g)) (pos 0) (pos (20 + g)) (pos 10); net = 8; space = 0; job = 2; mark = Placed }
+beside g = record { layer = 1; rect = rectangle (pos (10 + g)) (pos 0) (pos (20 + g)) (pos 10); net = 8; space = 0; job = 2; mark = Placed }
 
 abbrev pub agree : Bool → Bool → Bool
 agree a b = (a && b) || (not a && not b)
@@ -78,7 +78,7 @@ zone-rows =
 
 abbrev pub zone-holds : Zone-row → Bool
 zone-holds w =
-    agree (meets (zone keep-out (w .reach) (thin .space)) (rect (pos (w .from)) (pos 30) (pos (w .to)) (pos 30))) (w .met)
+    agree (meets (zone keep-out (w .reach) (thin .space)) (rectangle (pos (w .from)) (pos 30) (pos (w .to)) (pos 30))) (w .met)
 
 -- A row: a gap between the wire and the piece beside it, and whether it suffices.
 pub record Gap-row : Type 0 where
@@ -101,8 +101,8 @@ gap-holds w =
 
 pub record Worked-zones : Type 0 where
   -- The keep-out's wire zone runs from 35 to 55 in x, its via zone from 34 to 56.
-  pub wire-zone : zone keep-out (thin .half) (thin .space) ≡ rect (pos 35) (negsuc 4) (pos 55) (pos 65)
-  pub via-zone : zone keep-out (thin .pad) (thin .space) ≡ rect (pos 34) (negsuc 5) (pos 56) (pos 66)
+  pub wire-zone : zone keep-out (thin .half) (thin .space) ≡ rectangle (pos 35) (negsuc 4) (pos 55) (pos 65)
+  pub via-zone : zone keep-out (thin .pad) (thin .space) ≡ rectangle (pos 34) (negsuc 5) (pos 56) (pos 66)
   pub nets : all-of net-holds net-rows ≡ true
   pub zones : all-of zone-holds zone-rows ≡ true
   pub gaps : all-of gap-holds gap-rows ≡ true

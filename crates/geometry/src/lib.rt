@@ -1,7 +1,7 @@
 // What lies on a panel: points, rectangles, pieces and the zones round them.
-mod gaps;
 mod cases;
 mod class;
+mod gaps;
 mod laws;
 mod measures;
 mod net;
@@ -11,10 +11,11 @@ mod question;
 mod rect;
 mod zone;
 
-pub use gaps::apart;
 pub use cases::worked_zones_hold;
 pub use class::Class;
-pub use laws::clearance_laws;
+pub use gaps::apart;
+pub use laws::keep_clear;
+pub use laws::room_of;
 pub use net::different_nets;
 pub use piece::Mark;
 pub use piece::Piece;

@@ -19,7 +19,11 @@ impl Class {
         ensures measures { λ r. ⌜ BySome r (Unit {0}) (Has-measures half space pad) ⌝ }
     {
         if may_have(half, space, pad) {
-            Some(Class { half: half as u16, space: space as u16, pad: pad as u16 })
+            Some(Class {
+                half: half as u16,
+                space: space as u16,
+                pad: pad as u16,
+            })
         } else {
             None
         }

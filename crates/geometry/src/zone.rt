@@ -1,8 +1,5 @@
 // Zones round pieces, axis by axis, and whether a piece is in the way.
 ghost use mathlib.Core.Path.{_≡_};
-ghost use mathlib.Core.Bool.{_&&_};
-ghost use lib.Dec.{eqb};
-ghost use Rattle.geometry.specs.Nets.{different-nets};
 ghost use Rattle.geometry.specs.Zones.{widened, moved-out, crosses, meets, counts, in-way};
 use crate::net::different_nets;
 use crate::piece::Mark;
@@ -49,5 +46,8 @@ pub fn in_way(q: &Question, p: &Piece) -> bool
     ensures { λ r. ⌜ r ≡ in-way (now (q .entry)) (now (p .entry)) ⌝ }
 {
     let out = q.reach as u32 + q.space.max(p.space) as u32;
-    piece_counts(q, p) && p.layer == q.layer && different_nets(p.net, q.net) && zone_meets(&p.rect, out, &q.area)
+    piece_counts(q, p)
+        && p.layer == q.layer
+        && different_nets(p.net, q.net)
+        && zone_meets(&p.rect, out, &q.area)
 }

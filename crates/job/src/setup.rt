@@ -13,7 +13,7 @@ pub enum Stage {
 }
 
 /// The stage of a job, and what its accepted lines have set so far.
-#[derive(Clone, Copy)]
+#[derive(Drop)]
 pub struct Setup {
     pub stage: Stage,
     pub sheet: Sheet,

@@ -1,11 +1,14 @@
 // A panel, from the sheet that it is opened from to the calls on it.
 mod calls;
+mod panel;
+mod place;
 mod refusal;
 mod settings;
 mod sheet;
 
 pub use calls::Call;
 pub use calls::Placement;
+pub use panel::Panel;
 pub use refusal::Level;
 pub use refusal::LevelDebug;
 pub use refusal::LevelPartialEq;

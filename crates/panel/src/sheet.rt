@@ -4,7 +4,7 @@ ghost use Rattle.panel.specs.Sizes.{panel-size};
 use geometry::Class;
 
 /// The size of a panel, its layers, and the classes 1 to 16, as far as they are set.
-#[derive(Clone, Copy)]
+#[derive(Drop)]
 pub struct Sheet {
     pub(crate) width: u32,
     pub(crate) height: u32,

@@ -1,0 +1,4 @@
+pub mod Facts
+pub mod Lifting
+pub mod Orders
+pub mod Placing

@@ -1,0 +1,5 @@
+// Tests of registers, the same for each kind of register.
+#[cfg(test)]
+mod plain;
+#[cfg(test)]
+mod script;
