@@ -1,4 +1,5 @@
-// The calls on a panel, with their arguments as wide as a stranger may hand them in.
+// The calls on a panel, with their arguments as wide as a stranger may hand them in, and their answers.
+use crate::refusal::Refusal;
 
 /// A piece to be placed.
 #[derive(Clone, Copy)]
@@ -17,4 +18,12 @@ pub struct Placement {
 pub enum Call {
     Place(Placement),
     Lift(u32),
+}
+
+/// What a call is answered with: a job number, how many pieces went, or a refusal.
+#[derive(Clone, Copy)]
+pub enum Answer {
+    Placed(u16),
+    Lifted(usize),
+    Refused(Refusal),
 }

@@ -3,9 +3,11 @@ mod calls;
 mod panel;
 mod place;
 mod refusal;
+mod run;
 mod settings;
 mod sheet;
 
+pub use calls::Answer;
 pub use calls::Call;
 pub use calls::Placement;
 pub use panel::Panel;
