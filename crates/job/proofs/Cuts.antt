@@ -47,7 +47,7 @@ pub lines-from :
 lines-from job at n h is =
     let some : 0 < length (drop at job) = simp length-drop (omega arith) in
     let further : drop (n + 1) (drop at job) ≡ drop (min (length job) (at + n + 1)) job =
-        drop-drop (n + 1) at job ∙ (ap (λ k. drop k job) (omega arith) ∙ sym (drop-capped job (at + n + 1))) in
+    drop-drop (n + 1) at job ∙ (ap (λ k. drop k job) (omega arith) ∙ sym (drop-capped job (at + n + 1))) in
     rw (lines-cut (drop at job) some, ← is, further)
 
 -- whether a word is the last of its line, by how many bytes stand before the first space
@@ -60,13 +60,13 @@ drop-one b n bs = rw add-one
 rest-more : (at b n : ℕ) (bs : List ℕ) → rest-words (at + 1) n bs ≡ rest-words at (n + 1) (b ∷ bs)
 rest-more at b n bs = elim (cases-lt n (length bs)) [
   | inl h ↦
-    let e : (at + 1) + (n + 1) ≡ at + (n + 1 + 1) = omega arith in
-    cond-true (ltb n (length bs)) _ _ (lt-ltb n (length bs) h)
-    ∙ (ap (λ i. words i (drop (n + 1) bs)) e ∙ ap (words (at + (n + 1 + 1))) (drop-one b (n + 1) bs))
-    ∙ sym (cond-true (ltb (n + 1) (length (b ∷ bs))) _ _ (lt-ltb (n + 1) (length (b ∷ bs)) (omega arith)))
+      let e : (at + 1) + (n + 1) ≡ at + (n + 1 + 1) = omega arith in
+      cond-true (ltb n (length bs)) _ _ (lt-ltb n (length bs) h)
+      ∙ (ap (λ i. words i (drop (n + 1) bs)) e ∙ ap (words (at + (n + 1 + 1))) (drop-one b (n + 1) bs))
+      ∙ sym (cond-true (ltb (n + 1) (length (b ∷ bs))) _ _ (lt-ltb (n + 1) (length (b ∷ bs)) (omega arith)))
   | inr h ↦
-    cond-false (ltb n (length bs)) _ _ (le-ltb n (length bs) h)
-    ∙ sym (cond-false (ltb (n + 1) (length (b ∷ bs))) _ _ (le-ltb (n + 1) (length (b ∷ bs)) (omega arith)))
+      cond-false (ltb n (length bs)) _ _ (le-ltb n (length bs) h)
+      ∙ sym (cond-false (ltb (n + 1) (length (b ∷ bs))) _ _ (le-ltb (n + 1) (length (b ∷ bs)) (omega arith)))
 ]
 
 onto-word-cut :

@@ -4,3 +4,4 @@ pub mod Lefts
 pub mod Numbered
 pub mod Scans
 pub mod Tellings
+pub mod Texts

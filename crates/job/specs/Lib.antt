@@ -7,4 +7,5 @@ pub mod Scripts
 pub mod Settings
 pub mod Stages
 pub mod Text
+pub mod Transcripts
 pub mod Written

@@ -9,9 +9,9 @@ ghost use Rattle.job.specs.declared.setup.Stage.the-variants as stages;
 ghost use Rattle.job.specs.Text.{lines};
 ghost use Rattle.job.specs.Said.{replied, said, calls-in, Told};
 ghost use Rattle.job.specs.Scripts.{Read, Unset};
-use crate::lines::LineReader;
 use crate::forms::CostChoice;
 use crate::forms::RegisterChoice;
+use crate::lines::LineReader;
 use crate::refused::Refused;
 use crate::said::Reply;
 use crate::said::Said;
@@ -47,7 +47,12 @@ impl Setup {
 }
 
 // Notes what a line came to.
-fn note(said: &mut Vec<Said>, calls: &mut Vec<Call>, line: usize, answer: Result<Option<Call>, Refused>) -> Result<(), AllocError>
+fn note(
+    said: &mut Vec<Said>,
+    calls: &mut Vec<Call>,
+    line: usize,
+    answer: Result<Option<Call>, Refused>,
+) -> Result<(), AllocError>
     ensures said { λ r. ⌜ made r (λ _. vec-items (now (said .exit)) ≡ vec-items (now (said .entry)) ++ replied line answer) ⌝ }
     ensures calls { λ r. ⌜ made r (λ _. vec-items (now (calls .exit)) ≡ vec-items (now (calls .entry)) ++ calls-in (replied line answer)) ⌝ }
 {

@@ -62,7 +62,8 @@ impl Setup {
         ensures stage { λ r. ⌜ made r (λ _. now (self .exit) .stage ≡ led-on (now (self .entry) .stage) verbs.Class) ⌝ }
     {
         let line = read_class(words)?;
-        self.sheet.set_class(line.number, line.half, line.space, line.pad)?;
+        self.sheet
+            .set_class(line.number, line.half, line.space, line.pad)?;
         Ok(None)
     }
 

@@ -33,9 +33,10 @@ next-in-order s places st (lifting job (Err e)) right h = h
 keeps-from :
     (s : Sheet) (places : ℕ) (st : Standing) (es : List Event) → T (in-order (st .pieces)) → Run-from s places st es → Promise-from st es
 keeps-from s places st [] h run = right (all-of proper (st .pieces)) (clear (st .pieces)) h
-keeps-from s places st (e ∷ es) h run =
-    (right (all-of proper (st .pieces)) (clear (st .pieces)) h,
-     keeps-from s places (next st e) es (next-in-order s places st e (run .0) h) (run .1))
+keeps-from s places st (e ∷ es) h run = (
+  right (all-of proper (st .pieces)) (clear (st .pieces)) h,
+  keeps-from s places (next st e) es (next-in-order s places st e (run .0) h) (run .1),
+)
 
 pub runs-keep : (places : ℕ) → Runs-keep-the-promise places
 runs-keep places s es run = keeps-from s places nothing-stands es tt run

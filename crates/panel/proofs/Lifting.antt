@@ -20,7 +20,7 @@ pub none-out : {X : Type 0} (test : X → Bool) (xs : List X) → length (kept-b
 none-out test [] e = refl
 none-out {X} test (x ∷ xs) e =
     elim (test x) as (λ k. length (cond k (x ∷ kept-by test xs) (kept-by test xs)) ≡ 0
-        → _≡_ {A = List X} (cond (not k) (x ∷ kept-by (λ y. not (test y)) xs) (kept-by (λ y. not (test y)) xs)) (x ∷ xs)) [
+    → _≡_ {A = List X} (cond (not k) (x ∷ kept-by (λ y. not (test y)) xs) (kept-by (λ y. not (test y)) xs)) (x ∷ xs)) [
       | true ↦ λ z. absurd (omega (arith, z))
       | false ↦ λ z. ap {B = List X} (λ ys. x ∷ ys) (none-out test xs z)
     ] e

@@ -23,4 +23,6 @@ pub use refusal::SheetRefusalPartialEq;
 pub use refusal::Shown;
 pub use refusal::ShownDebug;
 pub use refusal::ShownPartialEq;
+pub use run::promise_over_runs;
+pub use run::run_calls;
 pub use sheet::Sheet;

@@ -42,7 +42,13 @@ pub fn promise_over_runs<K: CostKind, R: Register>() -> u8
 }
 
 /// Opens a panel, makes the calls, and gives back their answers.
-pub fn run_calls<K: CostKind, R: Register + Drop>(heap: Global, sheet: Sheet, kind: K, register: R, calls: &[Call]) -> Result<Vec<Answer>, AllocError>
+pub fn run_calls<K: CostKind, R: Register + Drop>(
+    heap: Global,
+    sheet: Sheet,
+    kind: K,
+    register: R,
+    calls: &[Call],
+) -> Result<Vec<Answer>, AllocError>
     ensures { λ r. ⌜ made r (λ answers. Driven sheet (R·Register .places register) (now (calls .entry)) (vec-items answers)) ⌝ }
 {
     let mut panel = sheet.open(kind, register);

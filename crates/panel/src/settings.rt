@@ -46,7 +46,13 @@ impl Sheet {
     }
 
     /// Sets the class of a number, or refuses and leaves the sheet as it is.
-    pub fn set_class(&mut self, number: u32, half: u32, space: u32, pad: u32) -> Result<(), SheetRefusal>
+    pub fn set_class(
+        &mut self,
+        number: u32,
+        half: u32,
+        space: u32,
+        pad: u32,
+    ) -> Result<(), SheetRefusal>
         ensures answer { λ r. ⌜ r ≡ class-answer number half space pad ⌝ }
         ensures sheet { λ r. ⌜ ByOk r (λ _. Reclassed (now (self .entry)) number half space pad (now (self .exit))) (λ _. now (self .exit) ≡ now (self .entry)) ⌝ }
     {

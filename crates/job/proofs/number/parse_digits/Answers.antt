@@ -40,10 +40,11 @@ loop-b-again c =
     let word : List ℕ = c .args .word .now in
     let i : ℕ = c .loop-b .b-index in
     let value : ℕ = c .loop-b .value in
-    let is : digit (getD word i 0) ≡ true = digit-in (getD word i 0) (c .if-b-lt48 .left) (c .if-b-gt57 .left) in
-    (ten-more value (getD word i 0 - 48) i (c .loop-b .inv .0) (omega arith),
-     c .loop-b .inv .1 ∙ all-past digit word i (c .loop-b-test .taken) is,
-     c .loop-b .inv .2 ∙ decimal-past value word i (c .loop-b-test .taken))
+    let is : digit (getD word i 0) ≡ true = digit-in (getD word i 0) (c .if-b-lt48 .left) (c .if-b-gt57 .left) in (
+      ten-more value (getD word i 0 - 48) i (c .loop-b .inv .0) (omega arith),
+      c .loop-b .inv .1 ∙ all-past digit word i (c .loop-b-test .taken) is,
+      c .loop-b .inv .2 ∙ decimal-past value word i (c .loop-b-test .taken),
+    )
 
 pub returns : need.returns
 returns c =

@@ -15,13 +15,14 @@ use Rattle.job.proofs.script.read_job.Needs as need
 pub loop-line-holds : need.loop-line-holds
 loop-line-holds c =
     let here : drop (c .new-reader .result .next) (c .args .job .now) ≡ c .args .job .now =
-        ap (λ k. drop k (c .args .job .now)) (c .new-reader .ensures .next) in
-    (c .new-reader .ensures .job,
-     omega arith,
-     omega (arith, c .new-reader .ensures .next),
-     rw (here, c .new-said .ensures .items, c .new-setup .ensures .stage-is),
-     rw (c .new-said .ensures .items, c .new-calls .ensures .items),
-     λ t h. rw here at h)
+    ap (λ k. drop k (c .args .job .now)) (c .new-reader .ensures .next) in (
+      c .new-reader .ensures .job,
+      omega arith,
+      omega (arith, c .new-reader .ensures .next),
+      rw (here, c .new-said .ensures .items, c .new-setup .ensures .stage-is),
+      rw (c .new-said .ensures .items, c .new-calls .ensures .items),
+      λ t h. rw here at h,
+    )
 
 pub loop-line-less : need.loop-line-less
 loop-line-less c =
@@ -37,19 +38,20 @@ loop-line-again c =
     let next′ : ℕ = c .next-line .last .self .next in
     let same : now (c .loop-line .reader .job) ≡ job = c .loop-line .inv .0 in
     let cut : lines (drop next job) ≡ line ∷ lines (drop next′ job) =
-        ap (λ j. lines (drop next j)) (sym same) ∙ (c .in-Some .ensures tt .lines ∙ ap (λ j. line ∷ lines (drop next′ j)) same) in
-    let told : Line-told s line t = line-told s t line _ (c .line-answer .ensures .answer) (c .line-answer .ensures .set) (c .line-answer .ensures .stage) in
-    (c .in-Some .ensures tt .job ∙ same,
-     omega (arith, c .in-Some .ensures tt .further .0, c .loop-line .inv .1),
-     omega (arith, c .in-Some .ensures tt .further .1, ap length same),
-     c .loop-line .inv .3
-     ∙ (said-more (vec-items (c .loop-line .said)) s t (c .loop-line .number) line _ _ _ cut (c .line-answer .ensures .answer) told
-     ∙ ap (λ so-far. so-far ++ said (t .stage) (c .loop-line .number + 1 + 1) (lines (drop next′ job))) (sym (c .in-Continue-note .ensures tt .said))),
-     c .in-Continue-note .ensures tt .calls
-     ∙ (ap (λ cs. cs ++ calls-in (replied (c .loop-line .number + 1) (c .line-answer .result))) (c .loop-line .inv .4)
-     ∙ (sym (calls-in-++ (vec-items (c .loop-line .said)) (replied (c .loop-line .number + 1) (c .line-answer .result)))
-     ∙ ap calls-in (sym (c .in-Continue-note .ensures tt .said)))),
-     λ u rest. c .loop-line .inv .5 u (told-more s t u line _ _ cut told rest))
+    ap (λ j. lines (drop next j)) (sym same) ∙ (c .in-Some .ensures tt .lines ∙ ap (λ j. line ∷ lines (drop next′ j)) same) in
+    let told : Line-told s line t = line-told s t line _ (c .line-answer .ensures .answer) (c .line-answer .ensures .set) (c .line-answer .ensures .stage) in (
+      c .in-Some .ensures tt .job ∙ same,
+      omega (arith, c .in-Some .ensures tt .further .0, c .loop-line .inv .1),
+      omega (arith, c .in-Some .ensures tt .further .1, ap length same),
+      c .loop-line .inv .3
+          ∙ (said-more (vec-items (c .loop-line .said)) s t (c .loop-line .number) line _ _ _ cut (c .line-answer .ensures .answer) told
+          ∙ ap (λ so-far. so-far ++ said (t .stage) (c .loop-line .number + 1 + 1) (lines (drop next′ job))) (sym (c .in-Continue-note .ensures tt .said))),
+      c .in-Continue-note .ensures tt .calls
+          ∙ (ap (λ cs. cs ++ calls-in (replied (c .loop-line .number + 1) (c .line-answer .result))) (c .loop-line .inv .4)
+          ∙ (sym (calls-in-++ (vec-items (c .loop-line .said)) (replied (c .loop-line .number + 1) (c .line-answer .result)))
+          ∙ ap calls-in (sym (c .in-Continue-note .ensures tt .said)))),
+      λ u rest. c .loop-line .inv .5 u (told-more s t u line _ _ cut told rest),
+    )
 
 pub returns : need.returns
 returns c =

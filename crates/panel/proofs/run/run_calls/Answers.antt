@@ -18,11 +18,12 @@ use Rattle.panel.proofs.run.run_calls.Needs as need
 pub loop-call-holds : need.loop-call-holds
 loop-call-holds g c =
     let s : Sheet = c .open-panel .result .sheet in
-    let places : ℕ = g .R·Register .places (c .open-panel .result .register) in
-    (subst (λ st. So-far s places [] (vec-items (c .new-answers .result)) st) (sym (c .open-panel .ensures .stands))
-     (subst (λ bs. So-far s places [] bs nothing-stands) (sym (c .new-answers .ensures .items)) (none-so-far s places)),
-     refl,
-     refl)
+    let places : ℕ = g .R·Register .places (c .open-panel .result .register) in (
+      subst (λ st. So-far s places [] (vec-items (c .new-answers .result)) st) (sym (c .open-panel .ensures .stands))
+          (subst (λ bs. So-far s places [] bs nothing-stands) (sym (c .new-answers .ensures .items)) (none-so-far s places)),
+      refl,
+      refl,
+    )
 
 pub loop-call-again : need.loop-call-again
 loop-call-again g c =
@@ -35,14 +36,15 @@ loop-call-again g c =
     let st : Standing = standing (g .R·Pieces .pieces) (c .loop-call .panel) in
     let st′ : Standing = standing (g .R·Pieces .pieces) (c .make .last .self) in
     let made : Made s places st call (c .make .result) st′ =
-        subst (λ n. Made s n st call (c .make .result) st′) (c .loop-call .inv .2)
-        (subst (λ t. Made t (g .R·Register .places (c .loop-call .panel .register)) st call (c .make .result) st′) (c .loop-call .inv .1) (c .make .ensures .made)) in
+    subst (λ n. Made s n st call (c .make .result) st′) (c .loop-call .inv .2)
+    (subst (λ t. Made t (g .R·Register .places (c .loop-call .panel .register)) st call (c .make .result) st′) (c .loop-call .inv .1) (c .make .ensures .made)) in
     let more : So-far s places (take i calls ++ (call ∷ [])) (vec-items (c .loop-call .answers) ++ (c .make .result ∷ [])) st′ =
-        so-far-more s places (take i calls) (vec-items (c .loop-call .answers)) st st′ call (c .make .result) (c .loop-call .inv .0) made in
-    (subst (λ cs. So-far s places cs (vec-items (c .push .last .self)) st′) (sym (take-more calls i none (c .loop-call-test .taken)))
-     (subst (λ bs. So-far s places (take i calls ++ (call ∷ [])) bs st′) (sym (c .in-Continue-push .ensures tt .items)) more),
-     c .make .ensures .setup .sheet-is ∙ c .loop-call .inv .1,
-     c .make .ensures .setup .places-is ∙ c .loop-call .inv .2)
+    so-far-more s places (take i calls) (vec-items (c .loop-call .answers)) st st′ call (c .make .result) (c .loop-call .inv .0) made in (
+      subst (λ cs. So-far s places cs (vec-items (c .push .last .self)) st′) (sym (take-more calls i none (c .loop-call-test .taken)))
+          (subst (λ bs. So-far s places (take i calls ++ (call ∷ [])) bs st′) (sym (c .in-Continue-push .ensures tt .items)) more),
+      c .make .ensures .setup .sheet-is ∙ c .loop-call .inv .1,
+      c .make .ensures .setup .places-is ∙ c .loop-call .inv .2,
+    )
 
 pub returns : need.returns
 returns g c =

@@ -23,11 +23,11 @@ returns c =
     let n : ℕ = c .find-end .result in
     let whole : take (length job - at) (drop at job) ≡ drop at job = take-rest job at in
     let text : take (n - 0) (take (length job - at) (drop at job)) ≡ take n (drop at job) =
-        ap (λ m. take m (take (length job - at) (drop at job))) (omega arith) ∙ ap (take n) whole in
+    ap (λ m. take m (take (length job - at) (drop at job))) (omega arith) ∙ ap (take n) whole in
     let is : n ≡ before 10 (drop at job) = c .find-end .ensures .value ∙ ap (before 10) whole in
     let fits : n ≤ length job - at = omega (arith, c .find-end .ensures .bound, ap length whole, length-drop at job) in
     let long : length (take (n - 0) (take (length job - at) (drop at job))) ≡ n =
-        ap length text ∙ omega (arith, length-take n (drop at job), length-drop at job) in
+    ap length text ∙ omega (arith, length-take n (drop at job), length-drop at job) in
     record {
       lines = rw (text, c .min-self .ensures) (lines-from job at n (c .if-place-self .left) is);
       place = (refl, omega (arith, long, c .min-self .ensures));

@@ -24,7 +24,7 @@ returns-in-Break-values g c =
     let end : ℕ = length (now (c .args .self .now .line)) in
     let ws : List Word-at = left (c .loop-i .self) in
     let stop : read-by number end ws ≡ Err (c .in-Break-values .field-0 .0) =
-        ap (λ l. read-by number (length l) ws) (sym (c .loop-i .inv .2)) ∙ (sym (c .number .ensures .answer) ∙ c .in-Break-values .was tt) in
+    ap (λ l. read-by number (length l) ws) (sym (c .loop-i .inv .2)) ∙ (sym (c .number .ensures .answer) ∙ c .in-Break-values .was tt) in
     rw (p .1, p .2) record {
       answer = sym (c .loop-i .inv .0 ∙ read-stops (take (c .loop-i .i) (c .loop-i .values)) (g .N) (c .loop-i .i) end ws _ (c .loop-i-test .taken) stop);
       words = tt;
@@ -38,13 +38,14 @@ loop-i-again g c =
     let end : ℕ = length (now (c .args .self .now .line)) in
     let ws : List Word-at = left (c .loop-i .self) in
     let goes : read-by number end ws ≡ Ok n =
-        ap (λ l. read-by number (length l) ws) (sym (c .loop-i .inv .2)) ∙ (sym (c .number .ensures .answer) ∙ c .in-Continue-values .was tt) in
-    let within : i < length (c .loop-i .values) = omega (arith, c .loop-i .inv .3, c .loop-i-test .taken) in
-    (c .loop-i .inv .0 ∙ (read-goes-on (take i (c .loop-i .values)) (g .N) i end ws n (c .loop-i-test .taken) goes
-     ∙ rw (take-more-set (c .loop-i .values) i n within, c .number .ensures .words)),
-     c .number .ensures .words ∙ (ap (drop 1) (c .loop-i .inv .1) ∙ drop-drop 1 i (left (c .args .self .now))),
-     c .number .ensures .line ∙ c .loop-i .inv .2,
-     length-set (c .loop-i .values) i n ∙ c .loop-i .inv .3)
+    ap (λ l. read-by number (length l) ws) (sym (c .loop-i .inv .2)) ∙ (sym (c .number .ensures .answer) ∙ c .in-Continue-values .was tt) in
+    let within : i < length (c .loop-i .values) = omega (arith, c .loop-i .inv .3, c .loop-i-test .taken) in (
+      c .loop-i .inv .0 ∙ (read-goes-on (take i (c .loop-i .values)) (g .N) i end ws n (c .loop-i-test .taken) goes
+          ∙ rw (take-more-set (c .loop-i .values) i n within, c .number .ensures .words)),
+      c .number .ensures .words ∙ (ap (drop 1) (c .loop-i .inv .1) ∙ drop-drop 1 i (left (c .args .self .now))),
+      c .number .ensures .line ∙ c .loop-i .inv .2,
+      length-set (c .loop-i .values) i n ∙ c .loop-i .inv .3,
+    )
 
 pub returns : need.returns
 returns g c =

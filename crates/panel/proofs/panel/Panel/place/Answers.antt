@@ -22,7 +22,7 @@ pub returns-in-Some : need.returns-in-Some
 returns-in-Some g c =
     let ps : List Piece = g .R·Pieces .pieces (c .args .self .now .register) in
     let named : T (in-way-by (room-for (c .args .a .now)) ps (c .in-Some .job)) =
-        subst (λ q. T (in-way-by q ps (c .in-Some .job))) (c .room-for .ensures) (c .in-Some .ensures tt) in
+    subst (λ q. T (in-way-by q ps (c .in-Some .job))) (c .room-for .ensures) (c .in-Some .ensures tt) in
     record {
       answer = inr (search needs, inr (search needs, inr (search needs, inl (refl, blocked (room-for (c .args .a .now)) ps (c .in-Some .job) named, named))));
       stands = refl;
@@ -35,10 +35,10 @@ returns g c =
     let ps : List Piece = g .R·Pieces .pieces (c .args .self .now .register) in
     let piece : Piece = placed (c .args .a .now) (c .args .self .now .last + 1) in
     let room : T (none-in-way (room-for (c .args .a .now)) ps) =
-        subst (λ q. T (none-in-way q ps)) (c .room-for .ensures) (c .in-rest .ensures tt) in
+    subst (λ q. T (none-in-way q ps)) (c .room-for .ensures) (c .in-rest .ensures tt) in
     let added : c .add .result ≡ true = c .add .ensures .answer ∙ lt-ltb (length ps) _ (omega (arith, c .free .ensures)) in
     let stand : g .R·Pieces .pieces (c .add .last .self) ≡ ps ++ (piece ∷ []) =
-        c .add .ensures .stands ∙ (ap (λ r. appended-if r (c .piece-of .result) ps) added ∙ ap (λ p. ps ++ (p ∷ [])) (c .piece-of .ensures)) in
+    c .add .ensures .stands ∙ (ap (λ r. appended-if r (c .piece-of .result) ps) added ∙ ap (λ p. ps ++ (p ∷ [])) (c .piece-of .ensures)) in
     let well : T (misplaced (c .args .self .now .sheet) (c .args .a .now)) → ⊥ = search needs in
     record {
       answer = search needs;

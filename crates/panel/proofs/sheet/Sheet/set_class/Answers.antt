@@ -9,8 +9,8 @@ use Rattle.panel.proofs.sheet.Sheet.set_class.Needs as need
 pub returns : need.returns
 returns c =
     let named : ranges 1 16 (c .args .number) ≡ true =
-        and-from (leb 1 (c .args .number)) (leb (c .args .number) 16)
-        (le-leb 1 (c .args .number) (omega arith)) (le-leb (c .args .number) 16 (omega arith)) in
+    and-from (leb 1 (c .args .number)) (leb (c .args .number) 16)
+    (le-leb 1 (c .args .number) (omega arith)) (le-leb (c .args .number) 16 (omega arith)) in
     record {
       answer =
           sym (cond-true (ranges 1 16 (c .args .number) && class-measures (c .args .half) (c .args .space) (c .args .pad)) _ _
