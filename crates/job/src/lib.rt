@@ -1,4 +1,5 @@
 // Jobs as text: what their lines say, and what is answered.
+mod cases;
 mod forms;
 mod lines;
 mod number;
@@ -14,6 +15,7 @@ mod steps;
 mod text;
 mod words;
 
+pub use cases::worked_jobs_hold;
 pub use forms::ClassLine;
 pub use forms::CostChoice;
 pub use forms::LayerLine;
