@@ -50,7 +50,7 @@ rows =
     ∷ row (codes "panel 9 9 1 v s\nlayer 9 0 0 0\nclass 1 0 0 0\n") [] (codes "no 2 2 sheet 0\nno 3 3 sheet 0\n")
     -- calls and their answers, with a line that cannot be read among them
     ∷ row (opened (codes "place 1 1 1 5 5 0 0\nplaces\nlift 1\nlift 1")) (Placed 1 ∷ Lifted 1 ∷ Refused NoSuchJob ∷ [])
-      (codes "ok 1\nno 16 4 job 0\nok 1\nno 9 6 panel 0\n")
+    (codes "ok 1\nno 16 4 job 0\nok 1\nno 9 6 panel 0\n")
     ∷ row (opened (codes "place 1 1 1 10 5 0 0\nopen\n")) (Refused OffPanel ∷ []) (codes "no 5 3 panel 0\nno 16 4 job 0\n")
     ∷ []
 

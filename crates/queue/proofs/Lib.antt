@@ -1,0 +1,5 @@
+mod Climbing
+mod Draining
+mod Fronts
+mod Heaps
+pub mod Uses

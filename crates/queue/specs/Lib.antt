@@ -1,0 +1,4 @@
+pub mod Distinct
+pub mod Heap
+pub mod Order
+pub mod Waiting
