@@ -1,5 +1,6 @@
 -- What a line's words are read as, one behind the other. Assumes nothing.
 --     left w                   the words that a reader of words has still to hand out
+--     of-words f w             what f makes of the line's length and these words
 --     read-.. end words        what the first of some words is read as, or the place of what does not fit; `end` is the line's
 --                              length, which is the place of a word that is missing
 use mathlib.Core.Bool.{Bool, true, false, cond, _&&_, _||_}
@@ -20,6 +21,10 @@ use Rattle.job.specs.Numbers.{number}
 
 abbrev pub left : WordReader → List Word-at
 left w = cond (w .more && leb (w .next) (length (now (w .line)))) (words (w .next) (drop (w .next) (now (w .line)))) []
+
+-- what is made of a line's length and the words that a reader has left
+abbrev pub of-words : {X : Type 0} → (ℕ → List Word-at → X) → WordReader → X
+of-words f w = f (length (now (w .line))) (left w)
 
 abbrev pub unreadable : ℕ → Unreadable
 unreadable n = record { place = n }

@@ -3,7 +3,10 @@ use mathlib.Core.Path.{_≡_}
 use mathlib.Core.List.{List, [], _∷_}
 use Prim.Native.Nat.{ℕ}
 use lib.ListN.{length}
+use denote.Ref.{now}
 use Rattle.std.specs.Options.{Cases as BySome}
+use Rattle.std.specs.Results.{Cases as ByOk}
+use Rattle.std.specs.declared.result.Result.{Result}
 use Rattle.std.specs.Vec.{made}
 use Rattle.costs.specs.Rows.{rows-after}
 use Rattle.panel.specs.Sheets.{Resized, Reclassed}
@@ -12,8 +15,10 @@ use Rattle.job.specs.declared.forms.Verb.the-variants as verbs
 use Rattle.job.specs.declared.forms.PanelLine.{PanelLine}
 use Rattle.job.specs.declared.forms.LayerLine.{LayerLine}
 use Rattle.job.specs.declared.forms.ClassLine.{ClassLine}
+use Rattle.job.specs.declared.reader.WordReader.{WordReader}
 use Rattle.job.specs.declared.setup.Setup.{Setup}
 use Rattle.job.specs.Text.{Word-at, words}
+use Rattle.job.specs.Reading.{left}
 use Rattle.job.specs.Forms.{verb, panel-line, layer-line, class-line}
 
 -- all but the stage
@@ -51,6 +56,10 @@ Line-set verbs.Place end ws s t = Settings-stay s t
 Line-set verbs.Lift end ws s t = Settings-stay s t
 Line-set verbs.Quote end ws s t = Settings-stay s t
 Line-set verbs.Connect end ws s t = Settings-stay s t
+
+-- What a line answered with r sets, by the words that a reader has left behind the first. A refusal changes nothing.
+abbrev pub Sets : {X Y : Type 0} → Verb → WordReader → Result X Y → Setup → Setup → Type 0
+Sets v w r s t = ByOk r (λ _. Line-set v (length (now (w .line))) (left w) s t) (λ _. t ≡ s)
 
 -- the same by all words of the line
 abbrev pub Words-set : ℕ → List Word-at → Setup → Setup → Type 0

@@ -1,7 +1,6 @@
 // Reading what a line says.
 ghost use mathlib.Core.Path.{_≡_};
-ghost use lib.ListN.{length};
-ghost use Rattle.job.specs.Reading.{left};
+ghost use Rattle.job.specs.Reading.{of-words};
 ghost use Rattle.job.specs.Forms.{verb, read-all, panel-line, layer-line, class-line, place-line, lift-line};
 use crate::forms::ClassLine;
 use crate::forms::CostChoice;
@@ -41,7 +40,7 @@ pub fn read_verb(word: &[u8]) -> Option<Verb>
 
 /// Numbers, and no word behind them.
 pub fn read_all<const N: usize>(words: &mut WordReader<'_>) -> Result<[u32; N], Unreadable>
-    ensures { λ r. ⌜ r ≡ read-all N (length (now (now (words .entry) .line))) (left (now (words .entry))) ⌝ }
+    ensures { λ r. ⌜ r ≡ of-words (read-all N) (now (words .entry)) ⌝ }
 {
     let values = words.numbers::<N>()?;
     words.finish()?;
@@ -50,7 +49,7 @@ pub fn read_all<const N: usize>(words: &mut WordReader<'_>) -> Result<[u32; N], 
 
 /// The words behind `panel`: three numbers, the letter of a kind of cost and that of a register.
 pub fn read_panel(words: &mut WordReader<'_>) -> Result<PanelLine, Unreadable>
-    ensures { λ r. ⌜ r ≡ panel-line (length (now (now (words .entry) .line))) (left (now (words .entry))) ⌝ }
+    ensures { λ r. ⌜ r ≡ of-words panel-line (now (words .entry)) ⌝ }
 {
     let [width, height, layers] = words.numbers::<3>()?;
     let money = words.letter(b'm', b'v')?;
@@ -75,7 +74,7 @@ pub fn read_panel(words: &mut WordReader<'_>) -> Result<PanelLine, Unreadable>
 
 /// The words behind `layer`: a layer and its prices.
 pub fn read_layer(words: &mut WordReader<'_>) -> Result<LayerLine, Unreadable>
-    ensures { λ r. ⌜ r ≡ layer-line (length (now (now (words .entry) .line))) (left (now (words .entry))) ⌝ }
+    ensures { λ r. ⌜ r ≡ of-words layer-line (now (words .entry)) ⌝ }
 {
     let [layer, u, v, t] = read_all::<4>(words)?;
     Ok(LayerLine { layer, u, v, t })
@@ -83,7 +82,7 @@ pub fn read_layer(words: &mut WordReader<'_>) -> Result<LayerLine, Unreadable>
 
 /// The words behind `class`: the number of a class and its measures.
 pub fn read_class(words: &mut WordReader<'_>) -> Result<ClassLine, Unreadable>
-    ensures { λ r. ⌜ r ≡ class-line (length (now (now (words .entry) .line))) (left (now (words .entry))) ⌝ }
+    ensures { λ r. ⌜ r ≡ of-words class-line (now (words .entry)) ⌝ }
 {
     let [number, half, space, pad] = read_all::<4>(words)?;
     Ok(ClassLine {
@@ -96,7 +95,7 @@ pub fn read_class(words: &mut WordReader<'_>) -> Result<ClassLine, Unreadable>
 
 /// The words behind `place`: a layer, a rectangle, a net and a space.
 pub fn read_place(words: &mut WordReader<'_>) -> Result<Placement, Unreadable>
-    ensures { λ r. ⌜ r ≡ place-line (length (now (now (words .entry) .line))) (left (now (words .entry))) ⌝ }
+    ensures { λ r. ⌜ r ≡ of-words place-line (now (words .entry)) ⌝ }
 {
     let [layer, x1, y1, x2, y2, net, space] = read_all::<7>(words)?;
     Ok(Placement {
@@ -112,7 +111,7 @@ pub fn read_place(words: &mut WordReader<'_>) -> Result<Placement, Unreadable>
 
 /// The word behind `lift`: a job number.
 pub fn read_lift(words: &mut WordReader<'_>) -> Result<u32, Unreadable>
-    ensures { λ r. ⌜ r ≡ lift-line (length (now (now (words .entry) .line))) (left (now (words .entry))) ⌝ }
+    ensures { λ r. ⌜ r ≡ of-words lift-line (now (words .entry)) ⌝ }
 {
     let [job] = read_all::<1>(words)?;
     Ok(job)

@@ -1,14 +1,13 @@
 // What a line of a job comes to.
 ghost use mathlib.Core.Path.{_≡_};
-ghost use lib.ListN.{length};
 ghost use Rattle.std.specs.Results.{Cases as ByOk};
 ghost use Rattle.std.specs.Vec.{made};
 ghost use Rattle.job.specs.declared.forms.Verb.the-variants as verbs;
 ghost use Rattle.job.specs.Text.{words};
-ghost use Rattle.job.specs.Reading.{left};
+ghost use Rattle.job.specs.Reading.{of-words};
 ghost use Rattle.std.specs.declared.option.Option.the-variants.{None, Some};
 ghost use Rattle.job.specs.Stages.{line-says, by-verb, answer-of, led-on, led-on-by};
-ghost use Rattle.job.specs.Settings.{Line-set, Set-by};
+ghost use Rattle.job.specs.Settings.{Sets, Set-by};
 use crate::forms::Verb;
 use crate::reader::LINE_BYTES;
 use crate::reader::Unreadable;
@@ -30,8 +29,8 @@ use panel::SheetRefusal;
 impl Setup {
     // A panel line sets the size, the kind of cost and the register.
     fn set_panel(&mut self, words: &mut WordReader<'_>) -> Result<Option<Call>, Refused>
-        ensures answer { λ r. ⌜ r ≡ line-says verbs.Panel (length (now (now (words .entry) .line))) (left (now (words .entry))) ⌝ }
-        ensures set { λ r. ⌜ ByOk r (λ _. Line-set verbs.Panel (length (now (now (words .entry) .line))) (left (now (words .entry))) (now (self .entry)) (now (self .exit))) (λ _. now (self .exit) ≡ now (self .entry)) ⌝ }
+        ensures answer { λ r. ⌜ r ≡ of-words (line-says verbs.Panel) (now (words .entry)) ⌝ }
+        ensures set { λ r. ⌜ Sets verbs.Panel (now (words .entry)) r (now (self .entry)) (now (self .exit)) ⌝ }
         ensures stage { λ r. ⌜ made r (λ _. now (self .exit) .stage ≡ led-on (now (self .entry) .stage) verbs.Panel) ⌝ }
     {
         let line = read_panel(words)?;
@@ -44,8 +43,8 @@ impl Setup {
 
     // A layer line sets the prices of a layer.
     fn set_layer(&mut self, words: &mut WordReader<'_>) -> Result<Option<Call>, Refused>
-        ensures answer { λ r. ⌜ r ≡ line-says verbs.Layer (length (now (now (words .entry) .line))) (left (now (words .entry))) ⌝ }
-        ensures set { λ r. ⌜ ByOk r (λ _. Line-set verbs.Layer (length (now (now (words .entry) .line))) (left (now (words .entry))) (now (self .entry)) (now (self .exit))) (λ _. now (self .exit) ≡ now (self .entry)) ⌝ }
+        ensures answer { λ r. ⌜ r ≡ of-words (line-says verbs.Layer) (now (words .entry)) ⌝ }
+        ensures set { λ r. ⌜ Sets verbs.Layer (now (words .entry)) r (now (self .entry)) (now (self .exit)) ⌝ }
         ensures stage { λ r. ⌜ made r (λ _. now (self .exit) .stage ≡ led-on (now (self .entry) .stage) verbs.Layer) ⌝ }
     {
         let line = read_layer(words)?;
@@ -57,8 +56,8 @@ impl Setup {
 
     // A class line sets the measures of a class.
     fn set_class(&mut self, words: &mut WordReader<'_>) -> Result<Option<Call>, Refused>
-        ensures answer { λ r. ⌜ r ≡ line-says verbs.Class (length (now (now (words .entry) .line))) (left (now (words .entry))) ⌝ }
-        ensures set { λ r. ⌜ ByOk r (λ _. Line-set verbs.Class (length (now (now (words .entry) .line))) (left (now (words .entry))) (now (self .entry)) (now (self .exit))) (λ _. now (self .exit) ≡ now (self .entry)) ⌝ }
+        ensures answer { λ r. ⌜ r ≡ of-words (line-says verbs.Class) (now (words .entry)) ⌝ }
+        ensures set { λ r. ⌜ Sets verbs.Class (now (words .entry)) r (now (self .entry)) (now (self .exit)) ⌝ }
         ensures stage { λ r. ⌜ made r (λ _. now (self .exit) .stage ≡ led-on (now (self .entry) .stage) verbs.Class) ⌝ }
     {
         let line = read_class(words)?;
@@ -69,8 +68,8 @@ impl Setup {
 
     // An open line leads on to the calls.
     fn open(&mut self, words: &mut WordReader<'_>) -> Result<Option<Call>, Refused>
-        ensures answer { λ r. ⌜ r ≡ line-says verbs.Open (length (now (now (words .entry) .line))) (left (now (words .entry))) ⌝ }
-        ensures set { λ r. ⌜ ByOk r (λ _. Line-set verbs.Open (length (now (now (words .entry) .line))) (left (now (words .entry))) (now (self .entry)) (now (self .exit))) (λ _. now (self .exit) ≡ now (self .entry)) ⌝ }
+        ensures answer { λ r. ⌜ r ≡ of-words (line-says verbs.Open) (now (words .entry)) ⌝ }
+        ensures set { λ r. ⌜ Sets verbs.Open (now (words .entry)) r (now (self .entry)) (now (self .exit)) ⌝ }
         ensures stage { λ r. ⌜ made r (λ _. now (self .exit) .stage ≡ led-on (now (self .entry) .stage) verbs.Open) ⌝ }
     {
         words.finish()?;
@@ -80,8 +79,8 @@ impl Setup {
 
     // What a line of this kind comes to at the stage of the job.
     fn take_line(&mut self, verb: Verb, words: &mut WordReader<'_>) -> Result<Option<Call>, Refused>
-        ensures answer { λ r. ⌜ r ≡ by-verb (now (self .entry) .stage) (Some verb) (length (now (now (words .entry) .line))) (left (now (words .entry))) ⌝ }
-        ensures set { λ r. ⌜ ByOk r (λ _. Line-set verb (length (now (now (words .entry) .line))) (left (now (words .entry))) (now (self .entry)) (now (self .exit))) (λ _. now (self .exit) ≡ now (self .entry)) ⌝ }
+        ensures answer { λ r. ⌜ r ≡ of-words (by-verb (now (self .entry) .stage) (Some verb)) (now (words .entry)) ⌝ }
+        ensures set { λ r. ⌜ Sets verb (now (words .entry)) r (now (self .entry)) (now (self .exit)) ⌝ }
         ensures stage { λ r. ⌜ made r (λ _. now (self .exit) .stage ≡ led-on (now (self .entry) .stage) verb) ⌝ }
     {
         match (self.stage, verb) {

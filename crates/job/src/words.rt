@@ -2,13 +2,13 @@
 ghost use mathlib.Core.Path.{_≡_};
 ghost use mathlib.Core.Bool.{true};
 ghost use mathlib.Core.List.{[], _∷_};
-ghost use lib.ListN.{length, drop};
+ghost use lib.ListN.{drop};
 ghost use Rattle.std.specs.Options.{Cases as BySome};
 ghost use Rattle.std.specs.Results.{errPart};
 ghost use Rattle.std.specs.Vec.{made};
 ghost use Rattle.job.specs.Text.{words, word-at};
 ghost use Rattle.job.specs.Numbers.{number};
-ghost use Rattle.job.specs.Reading.{left, read-by, read-numbers, read-end, letter};
+ghost use Rattle.job.specs.Reading.{left, of-words, read-by, read-numbers, read-end, letter};
 use crate::number::parse_number;
 use crate::reader::Unreadable;
 use crate::reader::Word;
@@ -51,7 +51,7 @@ impl<'a> WordReader<'a> {
 
     /// The next word as a number.
     pub fn number(&mut self) -> Result<u32, Unreadable>
-        ensures answer { λ r. ⌜ r ≡ read-by number (length (now (now (self .entry) .line))) (left (now (self .entry))) ⌝ }
+        ensures answer { λ r. ⌜ r ≡ of-words (read-by number) (now (self .entry)) ⌝ }
         ensures words { λ _. ⌜ left (now (self .exit)) ≡ drop 1 (left (now (self .entry))) ⌝ }
         ensures line { λ _. ⌜ now (now (self .exit) .line) ≡ now (now (self .entry) .line) ⌝ }
     {
@@ -68,7 +68,7 @@ impl<'a> WordReader<'a> {
 
     /// The next words as numbers.
     pub fn numbers<const N: usize>(&mut self) -> Result<[u32; N], Unreadable>
-        ensures answer { λ r. ⌜ r ≡ read-numbers N (length (now (now (self .entry) .line))) (left (now (self .entry))) ⌝ }
+        ensures answer { λ r. ⌜ r ≡ of-words (read-numbers N) (now (self .entry)) ⌝ }
         ensures words { λ r. ⌜ made r (λ _. left (now (self .exit)) ≡ drop N (left (now (self .entry)))) ⌝ }
         ensures line { λ _. ⌜ now (now (self .exit) .line) ≡ now (now (self .entry) .line) ⌝ }
     {
@@ -81,7 +81,7 @@ impl<'a> WordReader<'a> {
 
     /// The next word as one of two letters: whether it is the first.
     pub fn letter(&mut self, one: u8, other: u8) -> Result<bool, Unreadable>
-        ensures answer { λ r. ⌜ r ≡ read-by (letter one other) (length (now (now (self .entry) .line))) (left (now (self .entry))) ⌝ }
+        ensures answer { λ r. ⌜ r ≡ of-words (read-by (letter one other)) (now (self .entry)) ⌝ }
         ensures words { λ _. ⌜ left (now (self .exit)) ≡ drop 1 (left (now (self .entry))) ⌝ }
         ensures line { λ _. ⌜ now (now (self .exit) .line) ≡ now (now (self .entry) .line) ⌝ }
     {
