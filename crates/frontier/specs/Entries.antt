@@ -14,7 +14,7 @@ not-from-holds : (b : Bool) → T b → not b ≡ false
 not-from-holds true t = refl
 not-from-holds false t = absurd t
 
-holds-from-not : (b : Bool) → not b ≡ false → T b
+pub holds-from-not : (b : Bool) → not b ≡ false → T b
 holds-from-not true e = tt
 holds-from-not false e = absurd (clash (sym e))
 

@@ -6,24 +6,29 @@ ghost use Rattle.std.specs.Vec.{made};
 ghost use Rattle.panel.specs.Runs.{Driven};
 ghost use Rattle.job.specs.Transcripts.{Job-answered};
 use crate::forms::CostChoice;
+use crate::forms::RegisterChoice;
 use crate::script::read_job;
+use crate::setup::Setup;
 use crate::text::write_all;
 use costs::ByMoney;
 use costs::ByMoneyKind;
 use costs::ByVias;
 use costs::ByViasKind;
-use costs::PriceList;
 use geometry::Mark;
 use geometry::Piece;
 use geometry::Rect;
 use geometry::Span;
 use panel::Answer;
 use panel::Call;
-use panel::Sheet;
 use panel::run_calls;
+use registers::Pieces;
 use registers::PlainPieces;
 use registers::PlainPlaces;
 use registers::PlainRegister;
+use registers::Register;
+use registers::StripPieces;
+use registers::StripPlaces;
+use registers::StripRegister;
 use std::alloc::AllocError;
 use std::alloc::Global;
 
@@ -46,21 +51,35 @@ const NO_PIECE: Piece = Piece {
     mark: Mark::Placed,
 };
 
-// Opens a panel with 256 places, makes the calls, and gives back their answers.
-fn answer_calls(
+// Opens a panel over a register, makes the calls, and gives back their answers.
+fn call_over<R: Register + Drop>(
     heap: Global,
-    sheet: Sheet,
-    prices: PriceList,
-    cost: CostChoice,
+    setup: Setup,
+    register: R,
     calls: &[Call],
 ) -> Result<Vec<Answer>, AllocError>
-    ensures { λ r. ⌜ made r (λ answers. Driven sheet 256 (now (calls .entry)) (vec-items answers)) ⌝ }
+    ensures { λ r. ⌜ made r (λ answers. Driven (setup .sheet) (R·Register .places register) (now (calls .entry)) (vec-items answers)) ⌝ }
+{
+    let prices = setup.prices;
+    match setup.cost {
+        CostChoice::Money => run_calls(heap, setup.sheet, ByMoney { prices }, register, calls),
+        CostChoice::Vias => run_calls(heap, setup.sheet, ByVias { prices }, register, calls),
+    }
+}
+
+// The same over the register that the job has chosen, with 256 places.
+fn answer_calls(heap: Global, setup: Setup, calls: &[Call]) -> Result<Vec<Answer>, AllocError>
+    ensures { λ r. ⌜ made r (λ answers. Driven (setup .sheet) 256 (now (calls .entry)) (vec-items answers)) ⌝ }
 {
     let mut slots = [NO_PIECE; PLACES];
-    let register = PlainRegister::new(&mut slots);
-    match cost {
-        CostChoice::Money => run_calls(heap, sheet, ByMoney { prices }, register, calls),
-        CostChoice::Vias => run_calls(heap, sheet, ByVias { prices }, register, calls),
+    match setup.register {
+        RegisterChoice::Plain => call_over(heap, setup, PlainRegister::new(&mut slots), calls),
+        RegisterChoice::Strips => {
+            let mut links = [0; PLACES];
+            let height = setup.sheet.height();
+            let register = StripRegister::new(&mut slots, &mut links, height);
+            call_over(heap, setup, register, calls)
+        }
     }
 }
 
@@ -72,13 +91,6 @@ pub fn run_job(heap: Global, job: &[u8]) -> Result<String, AllocError>
         return String::from_str(heap, "no 16 0 job 65536\n");
     }
     let script = read_job(heap, job)?;
-    let setup = script.setup;
-    let answers = answer_calls(
-        heap,
-        setup.sheet,
-        setup.prices,
-        setup.cost,
-        script.calls.as_slice(),
-    )?;
+    let answers = answer_calls(heap, script.setup, script.calls.as_slice())?;
     write_all(heap, script.said.as_slice(), answers.as_slice())
 }

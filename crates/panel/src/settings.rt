@@ -28,6 +28,13 @@ impl Sheet {
         }
     }
 
+    /// The height of the panel.
+    pub fn height(&self) -> u32
+        ensures { λ r. ⌜ r ≡ now (self .entry) .height ⌝ }
+    {
+        self.height
+    }
+
     /// Sets the size, or refuses and leaves the sheet as it is.
     pub fn set_size(&mut self, width: u32, height: u32, layers: u32) -> Result<(), SheetRefusal>
         ensures answer { λ r. ⌜ r ≡ size-answer width height layers ⌝ }

@@ -5,23 +5,14 @@ use mathlib.Core.List.{List, [], _∷_, _++_}
 use mathlib.Core.Logic.{inl, inr}
 use Prim.Native.Nat.{ℕ, min, _+_, _<_}
 use native.Mathlib.Omega.{arith}
-use lib.IntN.{pos}
 use lib.ListN.{length, take, set, length-take}
 use lib.Seq.{take-all, take-length}
 use Rattle.std.proofs.shelf.Filters.{Keeping}
 use Rattle.std.proofs.shelf.Lists.{take-more-set}
 use Rattle.std.proofs.shelf.Tests.{cases-lt}
-use Rattle.geometry.specs.declared.rect.Span.{Span}
-use Rattle.geometry.specs.declared.piece.Mark.the-variants.{Placed}
 use Rattle.geometry.specs.declared.piece.Piece.{Piece}
 use Rattle.registers.specs.Standing.{of-job, without-job, count-and-rest}
 use Rattle.registers.specs.Plains.{room, stand, Compacted}
-
--- what a read past the slots would give
-abbrev pub no-piece : Piece
-no-piece =
-    let none : Span = record { low = pos 0; high = pos 0 } in
-    record { layer = 0; rect = record { x = none; y = none }; net = 0; space = 0; job = 0; mark = Placed }
 
 pub length-stand : (count : ℕ) (xs : List Piece) → length (stand count xs) ≡ min count (room xs)
 length-stand count xs = simp length-take (omega arith)

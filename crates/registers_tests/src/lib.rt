@@ -3,3 +3,7 @@
 mod plain;
 #[cfg(test)]
 mod script;
+#[cfg(test)]
+mod spread;
+#[cfg(test)]
+mod strip;

@@ -6,7 +6,8 @@ use Rattle.std.proofs.shelf.Filters.{keeping-more-no, keeping-more-set}
 use Rattle.std.proofs.shelf.Lists.{getD-default}
 use Rattle.std.proofs.shelf.Ways.{tells}
 use Rattle.registers.specs.Plains.{room}
-use Rattle.registers.proofs.Fronts.{no-piece, compacted}
+use Rattle.registers.specs.Chainings.{no-piece}
+use Rattle.registers.proofs.Fronts.{compacted}
 use Rattle.registers.proofs.slots.compact.Needs as need
 use Rattle.registers.proofs.slots.compact.Needs.{then-p-job, else-p-job}
 

@@ -1,7 +1,7 @@
 use mathlib.Core.Path.{sym, _∙_}
 use Rattle.std.proofs.shelf.Lists.{at-drop-all}
+use Rattle.registers.specs.Chainings.{no-piece}
 use Rattle.registers.proofs.Firsts.{first-in-way, told-by-first, first-at}
-use Rattle.registers.proofs.Fronts.{no-piece}
 use Rattle.registers.proofs.slots.first_in_way.Needs as need
 
 pub returns-then-in-way : need.returns-then-in-way

@@ -1,0 +1,13 @@
+pub mod Count
+pub mod Ends
+pub mod Entering
+pub mod Filling
+pub mod Fit
+pub mod Looks
+pub mod Marks
+pub mod Noting
+pub mod Relax
+pub mod Settle
+pub mod Trails
+pub mod Turn
+pub mod Walk
