@@ -1,8 +1,8 @@
 #!/bin/sh
-# Builds the benchmark over the crates of the folder above (or of the crates folder given) and runs it.
+# Builds the benchmark over the crates of this repository (or of the crates folder given) and runs it.
 set -e
 here=$(cd "$(dirname "$0")" && pwd)
-crates=$(cd "${1:-$here/../crates}" && pwd)
+crates=$(cd "${1:-$here/../../crates}" && pwd)
 build=${BUILD:-${TMPDIR:-/tmp}/register_bench}
 mkdir -p "$build/crates"
 for c in geometry registers; do
