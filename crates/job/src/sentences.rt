@@ -13,8 +13,8 @@ use crate::reader::WordReader;
 use crate::scan::spells;
 use panel::Placement;
 
-/// The kind of a line that begins with this word.
-pub fn read_verb(word: &[u8]) -> Option<Verb>
+// The kind of a line that begins with this word.
+pub(crate) fn read_verb(word: &[u8]) -> Option<Verb>
     ensures { λ r. ⌜ r ≡ verb (now (word .entry)) ⌝ }
 {
     if spells(word, b"panel") {
@@ -38,8 +38,8 @@ pub fn read_verb(word: &[u8]) -> Option<Verb>
     }
 }
 
-/// Numbers, and no word behind them.
-pub fn read_all<const N: usize>(words: &mut WordReader<'_>) -> Result<[u32; N], Unreadable>
+// Numbers, and no word behind them.
+pub(crate) fn read_all<const N: usize>(words: &mut WordReader<'_>) -> Result<[u32; N], Unreadable>
     ensures { λ r. ⌜ r ≡ of-words (read-all N) (now (words .entry)) ⌝ }
 {
     let values = words.numbers::<N>()?;
@@ -47,8 +47,8 @@ pub fn read_all<const N: usize>(words: &mut WordReader<'_>) -> Result<[u32; N], 
     Ok(values)
 }
 
-/// The words behind `panel`: three numbers, the letter of a kind of cost and that of a register.
-pub fn read_panel(words: &mut WordReader<'_>) -> Result<PanelLine, Unreadable>
+// The words behind `panel`: three numbers, the letter of a kind of cost and that of a register.
+pub(crate) fn read_panel(words: &mut WordReader<'_>) -> Result<PanelLine, Unreadable>
     ensures { λ r. ⌜ r ≡ of-words panel-line (now (words .entry)) ⌝ }
 {
     let [width, height, layers] = words.numbers::<3>()?;
@@ -72,16 +72,16 @@ pub fn read_panel(words: &mut WordReader<'_>) -> Result<PanelLine, Unreadable>
     })
 }
 
-/// The words behind `layer`: a layer and its prices.
-pub fn read_layer(words: &mut WordReader<'_>) -> Result<LayerLine, Unreadable>
+// The words behind `layer`: a layer and its prices.
+pub(crate) fn read_layer(words: &mut WordReader<'_>) -> Result<LayerLine, Unreadable>
     ensures { λ r. ⌜ r ≡ of-words layer-line (now (words .entry)) ⌝ }
 {
     let [layer, u, v, t] = read_all::<4>(words)?;
     Ok(LayerLine { layer, u, v, t })
 }
 
-/// The words behind `class`: the number of a class and its measures.
-pub fn read_class(words: &mut WordReader<'_>) -> Result<ClassLine, Unreadable>
+// The words behind `class`: the number of a class and its measures.
+pub(crate) fn read_class(words: &mut WordReader<'_>) -> Result<ClassLine, Unreadable>
     ensures { λ r. ⌜ r ≡ of-words class-line (now (words .entry)) ⌝ }
 {
     let [number, half, space, pad] = read_all::<4>(words)?;
@@ -93,8 +93,8 @@ pub fn read_class(words: &mut WordReader<'_>) -> Result<ClassLine, Unreadable>
     })
 }
 
-/// The words behind `place`: a layer, a rectangle, a net and a space.
-pub fn read_place(words: &mut WordReader<'_>) -> Result<Placement, Unreadable>
+// The words behind `place`: a layer, a rectangle, a net and a space.
+pub(crate) fn read_place(words: &mut WordReader<'_>) -> Result<Placement, Unreadable>
     ensures { λ r. ⌜ r ≡ of-words place-line (now (words .entry)) ⌝ }
 {
     let [layer, x1, y1, x2, y2, net, space] = read_all::<7>(words)?;
@@ -109,8 +109,8 @@ pub fn read_place(words: &mut WordReader<'_>) -> Result<Placement, Unreadable>
     })
 }
 
-/// The word behind `lift`: a job number.
-pub fn read_lift(words: &mut WordReader<'_>) -> Result<u32, Unreadable>
+// The word behind `lift`: a job number.
+pub(crate) fn read_lift(words: &mut WordReader<'_>) -> Result<u32, Unreadable>
     ensures { λ r. ⌜ r ≡ of-words lift-line (now (words .entry)) ⌝ }
 {
     let [job] = read_all::<1>(words)?;
