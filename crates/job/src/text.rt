@@ -79,7 +79,11 @@ fn behind<'a>(reply: &Reply, left: &'a [Answer]) -> &'a [Answer]
 }
 
 // What the lines of a job are answered with, where these are the answers of its calls.
-pub(crate) fn write_all(heap: Global, said: &[Said], answers: &[Answer]) -> Result<String, AllocError>
+pub(crate) fn write_all(
+    heap: Global,
+    said: &[Said],
+    answers: &[Answer],
+) -> Result<String, AllocError>
     ensures { λ r. ⌜ made r (λ t. string-bytes t ≡ text-of (now (said .entry)) (now (answers .entry))) ⌝ }
 {
     let mut text = String::new(heap);
