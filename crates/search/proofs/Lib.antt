@@ -1,0 +1,12 @@
+pub mod Adjacent
+pub mod Costs
+pub mod Counting
+pub mod Drawings
+pub mod Following
+pub mod Joins
+pub mod Leading
+pub mod Leasts
+pub mod Points
+pub mod Putting
+pub mod Stepping
+pub mod Ways

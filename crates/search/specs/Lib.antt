@@ -1,0 +1,9 @@
+pub mod Axes
+pub mod Bounds
+pub mod Drawing
+pub mod Grids
+pub mod Lattices
+pub mod Located
+pub mod Nodes
+pub mod Requests
+pub mod Told
