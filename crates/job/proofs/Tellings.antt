@@ -6,7 +6,7 @@ use Rattle.job.specs.declared.said.Reply.{Reply}
 use Rattle.job.specs.declared.said.Reply.TheVariants as reply
 use Rattle.job.specs.declared.said.Said.{Said}
 use Rattle.job.specs.declared.setup.Setup.{Setup}
-use Rattle.words.specs.Text.{words}
+use Rattle.job.specs.Text.{words}
 use Rattle.job.specs.Stages.{answer_of, led_on_by, led_on_if, stage_after}
 use Rattle.job.specs.Settings.{SetBy}
 use Rattle.job.specs.Said.{replied, said, call_in, calls_in, LineTold, Told}

@@ -4,13 +4,9 @@ mod asked;
 #[cfg(test)]
 mod calls;
 #[cfg(test)]
-mod connects;
-#[cfg(test)]
 mod full;
 #[cfg(test)]
 mod long;
-#[cfg(test)]
-mod quotes;
 #[cfg(test)]
 mod settings;
 #[cfg(test)]

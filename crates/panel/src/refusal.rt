@@ -12,14 +12,14 @@ pub enum Refusal {
     NetRange,
     OffPanel,
     SamePoint,
-    TooFewPlaces(usize),
+    TooFewPlaces(u32),
     InTheWay(u32),
     NoSuchJob,
     ShortCoordinates(u32),
     TooManyLines,
     ShortNodes(u32),
     NoPath,
-    ShortPath(usize),
+    ShortPath(u32),
     JobsUsedUp,
 }
 

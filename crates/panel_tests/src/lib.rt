@@ -2,8 +2,6 @@
 #[cfg(test)]
 mod calls;
 #[cfg(test)]
-mod connects;
-#[cfg(test)]
 mod sheets;
 #[cfg(test)]
 mod shown;

@@ -7,5 +7,3 @@ pub mod Located
 pub mod Nodes
 pub mod Requests
 pub mod Told
-pub mod Traces
-pub mod Tracks

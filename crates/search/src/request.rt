@@ -35,7 +35,7 @@ pub struct Request {
 #[derive(Clone, Copy)]
 pub enum Refusal {
     Improper,
-    ShortLists(u32),
+    ShortLists(usize),
     TooManyLines,
     ShortNodes(u32),
 }

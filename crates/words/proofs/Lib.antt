@@ -1,5 +1,0 @@
-pub mod Cuts
-pub mod Digits
-pub mod Lefts
-pub mod Numbered
-pub mod Scans
