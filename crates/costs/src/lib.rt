@@ -1,4 +1,6 @@
-// What the steps of a path cost: amounts, kinds of cost, and price lists.
+//! What the steps of a path cost: amounts, kinds of cost, and price lists.
+#![tactic(auto)]
+
 pub mod amount;
 pub mod cases;
 pub mod doubling;

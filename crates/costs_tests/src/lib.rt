@@ -1,4 +1,6 @@
-// Price rows at the ends of their ranges and one past them, and amounts at a few values.
+//! Price rows at the ends of their ranges and one past them, and amounts at a few values.
+#![tactic(auto)]
+
 #[cfg(test)]
 mod amounts;
 #[cfg(test)]

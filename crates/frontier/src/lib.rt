@@ -1,4 +1,6 @@
-// The search for a route of least cost through a graph, from one node outwards.
+//! The search for a route of least cost through a graph, from one node outwards.
+#![tactic(auto)]
+
 mod entry;
 mod find;
 mod graph;

@@ -1,4 +1,6 @@
-// What lies on a panel: points, rectangles, pieces and the zones round them.
+//! What lies on a panel: points, rectangles, pieces and the zones round them.
+#![tactic(auto)]
+
 mod cases;
 mod class;
 mod gaps;

@@ -1,4 +1,6 @@
-// Tests of zones, gaps, nets and classes.
+//! Tests of zones, gaps, nets and classes.
+#![tactic(auto)]
+
 #[cfg(test)]
 mod measures;
 #[cfg(test)]

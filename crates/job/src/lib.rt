@@ -1,4 +1,6 @@
-// Jobs as text: what their lines say, and what is answered.
+//! Jobs as text: what their lines say, and what is answered.
+#![tactic(auto)]
+
 mod cases;
 mod forms;
 mod lines;

@@ -1,4 +1,6 @@
-// Jobs and their answers, in tables.
+//! Jobs and their answers, in tables.
+#![tactic(auto)]
+
 #[cfg(test)]
 mod asked;
 #[cfg(test)]

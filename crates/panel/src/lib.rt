@@ -1,4 +1,6 @@
-// A panel, from the sheet that it is opened from to the calls on it.
+//! A panel, from the sheet that it is opened from to the calls on it.
+#![tactic(auto)]
+
 mod calls;
 mod panel;
 mod place;

@@ -1,4 +1,6 @@
-// Sheets, and calls on a panel that no job can make.
+//! Sheets, and calls on a panel that no job can make.
+#![tactic(auto)]
+
 #[cfg(test)]
 mod calls;
 #[cfg(test)]

@@ -1,4 +1,6 @@
-// panelrun: runs the job on standard input, and prints its answers.
+//! panelrun: runs the job on standard input, and prints its answers.
+#![tactic(auto)]
+
 use job::run_job;
 use std::io::Read;
 

@@ -1,4 +1,6 @@
-// A priority queue over a lent slice, and the distinct numbers that come out of one.
+//! A priority queue over a lent slice, and the distinct numbers that come out of one.
+#![tactic(auto)]
+
 mod distinct;
 mod drain;
 mod front;

@@ -1,5 +1,7 @@
-// Runs the queue at plain numbers, at frontier entries and at numbers that count their comparisons,
-// checks what comes out, and prints counts.
+//! Runs the queue at plain numbers, at frontier entries and at numbers that count their comparisons,
+//! checks what comes out, and prints counts.
+#![tactic(auto)]
+
 mod collect;
 mod comparisons;
 mod counted;

@@ -1,4 +1,6 @@
-// Registers: where the standing pieces are kept, in order of arrival.
+//! Registers: where the standing pieces are kept, in order of arrival.
+#![tactic(auto)]
+
 mod chain;
 mod chains;
 mod pieces;

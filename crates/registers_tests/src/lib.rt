@@ -1,4 +1,6 @@
-// Tests of registers, the same for each kind of register.
+//! Tests of registers, the same for each kind of register.
+#![tactic(auto)]
+
 #[cfg(test)]
 mod plain;
 #[cfg(test)]

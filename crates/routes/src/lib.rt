@@ -1,5 +1,7 @@
-// Routes on a panel: why the lines of a request suffice for its least-cost paths, and what lawful routes keep clear of. There
-// is nothing to run here: each function's contract is a theorem.
+//! Routes on a panel: why the lines of a request suffice for its least-cost paths, and what lawful routes keep clear of. There
+//! is nothing to run here: each function's contract is a theorem.
+#![tactic(auto)]
+
 mod amounts;
 mod cases;
 mod clearance;

@@ -1,4 +1,6 @@
-// The search for a least-cost path: the lines of a request and the nodes where they cross.
+//! The search for a least-cost path: the lines of a request and the nodes where they cross.
+#![tactic(auto)]
+
 mod drawing;
 mod graph;
 mod grid;
