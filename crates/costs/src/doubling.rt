@@ -6,7 +6,7 @@ use crate::amount::Amount;
 
 /// The amount `k` times over, by doubling: exact where `k` times its bulk is below `2 ^ 62`.
 pub fn times<C: Amount>(amount: C, k: u32) -> C
-    ensures { k * sums.bulk (means amount) < 2 ^ 62 → means result ≡ times sums k (means amount) }
+    ensures { k * C.sums.bulk (C.means amount) < 2 ^ 62 → C.means result ≡ times C.sums k (C.means amount) }
 {
     let mut total = C::zero();
     let mut unit = amount;

@@ -10,8 +10,6 @@ pub mod money;
 pub mod prices;
 pub mod vias;
 
-use crate::money::Amount as _;
-use crate::vias::Amount as _;
 pub use amount::Amount;
 pub use cases::worked_comparisons_hold;
 pub use kind::CostKind;

@@ -7,7 +7,7 @@ use Rattle.costs.proofs.doubling.times.Goals.{then-rest-eq1, else-rest-eq1}
 
 pub loop-rest-init : goal.loop-rest-init
 loop-rest-init g c small =
-    let m = g.C-as-Amount in
+    let m = g.C.Amount in
     let amount = m.means c.args.amount in
     let whole = times m.sums c.args.k amount in
     let none = c.zero-total.ensures in
@@ -17,7 +17,7 @@ loop-rest-init g c small =
 
 pub loop-rest-preserved : goal.loop-rest-preserved
 loop-rest-preserved g c small =
-    let m = g.C-as-Amount in
+    let m = g.C.Amount in
     let total = m.means c.loop-rest.total in
     let unit = m.means c.loop-rest.unit in
     let added = m.means c.if-rest-eq1.total in
@@ -28,8 +28,8 @@ loop-rest-preserved g c small =
     elim c.if-rest-eq1.branch [
       | then-rest-eq1 w ↦
           odd_turn m.laws total unit added doubled c.loop-rest.rest whole size w.if-rest-eq1.true small
-          (λ fits. ap m.means w.total_is ∙ w.sum-total.ensures fits) c.sum-unit.ensures (c.loop-rest.invariant small)
+          (λ fits. ap m.means w.total-is ∙ w.sum-total.ensures fits) c.sum-unit.ensures (c.loop-rest.invariant small)
       | else-rest-eq1 w ↦
           even_turn m.laws total unit added doubled c.loop-rest.rest whole size (omega arith) small
-          (ap m.means w.total_is) c.sum-unit.ensures (c.loop-rest.invariant small)
+          (ap m.means w.total-is) c.sum-unit.ensures (c.loop-rest.invariant small)
     ]

@@ -5,7 +5,7 @@ use Rattle.costs.proofs.doubling.times.Given as goal
 
 abbrev pub invariant-loop-rest : goal.invariant-loop-rest
 invariant-loop-rest g l =
-    let m = g.C-as-Amount in
+    let m = g.C.Amount in
     let a = m.means l.initial.unit in
     let size = l.k * m.sums.bulk a in
     size < 2 ^ 62 → Stands m.sums (m.means l.total) (m.means l.unit) l.rest (times m.sums l.k a) size
