@@ -2,9 +2,9 @@
 use costs::amount::Amount;
 use costs::doubling::times;
 use costs::kind::CostKind;
-use costs::money::{Amount as _, ByMoney, Money};
+use costs::money::{ByMoney, Money};
 use costs::prices::PriceList;
-use costs::vias::{Amount as _, ByVias, ViasMoney};
+use costs::vias::{ByVias, ViasMoney};
 use std::test::Fail;
 
 /// Factors, units and the product.
@@ -68,7 +68,7 @@ fn money_is_compared_and_added(rt: HostRuntime) {
     assert!(rt; five.at_most(&five));
     assert!(rt; !six.at_most(&five));
     assert_eq!(rt; five.sum(six).units, 11);
-    assert_eq!(rt; five.sum(MoneyAmount::zero()).units, 5);
+    assert_eq!(rt; five.sum(Money::zero()).units, 5);
 }
 
 /// 24 units on layer 1, 22 on layer 2 and 34 on layer 1, all along x, with a via after the first and the second.
