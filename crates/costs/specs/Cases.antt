@@ -1,6 +1,6 @@
 -- Worked comparisons of pairs of vias and money, as rows under one statement. Assumes nothing.
 use Rattle.std.specs.Prelude.{◌≡◌, ℕ, Bool, true, false, not, List, [], ◌∷◌}
-use Rattle.std.specs.List.{AllByRecursion as All}
+use Rattle.std.specs.List.{AllByRecursion}
 use Rattle.costs.specs.Amounts.{Sums}
 use Rattle.costs.specs.Vias.{pairs}
 
@@ -34,4 +34,4 @@ abbrev pub Holds : Comparison → Type 0
 Holds c = less pairs c.first c.second ≡ c.answer
 
 abbrev pub WorkedComparisons : Type 0
-WorkedComparisons = All Holds comparisons
+WorkedComparisons = AllByRecursion Holds comparisons

@@ -1,6 +1,6 @@
 -- Routes and trails. Assumes nothing.
 use Rattle.std.proofs.Common.{◌≡◌, ℕ, List, [], ◌∷◌, sym, refl, ap, ◌∙◌, subst}
-use Rattle.std.specs.List.{AllByRecursion as All}
+use Rattle.std.specs.List.{AllByRecursion}
 use Rattle.costs.specs.Amounts.{Laws}
 use Rattle.costs.proofs.Order.{nothing_plus}
 use Rattle.frontier.specs.Routes.{Search, Move, Route}
@@ -34,7 +34,7 @@ module _ {M : Type 0} (g : Search M) (laws : Laws g.sums) (f : ℕ → Mark M) w
 
   -- a node that is not settled stands on no trail
   pub trail_fresh : (w : ℕ) → ((a : M) (p : ℕ) → f w ≡ settled a p → ⊥)
-      → (back : List ℕ) (u : ℕ) (a : M) → Trail g f u back a → All (λ x. x ≡ w → ⊥) (u ∷ back)
+      → (back : List ℕ) (u : ℕ) (a : M) → Trail g f u back a → AllByRecursion (λ x. x ≡ w → ⊥) (u ∷ back)
   trail_fresh w n [] u a r = (λ e. n a r.0 (ap f (sym e) ∙ r.1), tt)
   trail_fresh w n (p ∷ back) u a r = (λ e. n a p (ap f (sym e) ∙ r.2), trail_fresh w n back p r.0 r.3)
 

@@ -1,7 +1,7 @@
 -- Following the notes back to the start. Assumes nothing.
 use Rattle.std.proofs.Common.{◌≡◌, ℕ, ◌+◌, ◌<◌, ◌≤◌, List, [], ◌∷◌, ◌++◌, reverse, length, get_or, drop, Some, None, Option, sym, refl, ap, ◌∙◌, subst, ap₂, arith}
 use native.Mathlib.Decide.{dec_lt}
-use Rattle.std.specs.List.{AllByRecursion as All}
+use Rattle.std.specs.List.{AllByRecursion}
 use Rattle.std.proofs.lemmas.List.{get_or_past, get_or_append_left}
 use Rattle.frontier.specs.declared.note.Note.{Note}
 use Rattle.frontier.specs.declared.note.Note.TheVariants.{Unseen, Waiting, Settled}
@@ -19,7 +19,7 @@ mark_settled means (Settled a q) b p h = let f : q ≡ p = cc in (a, ap (Settled
 
 module _ {C M : Type 0} (g : Search M) (means : C → M) (notes : List (Note C)) where
   -- a trail ends at the start, so what it passes by is not the start
-  trail_ends : (back : List ℕ) (u : ℕ) (a : M) (w : ℕ) → Trail g (marks means notes) u back a → All (λ x. x ≡ w → ⊥) (u ∷ back)
+  trail_ends : (back : List ℕ) (u : ℕ) (a : M) (w : ℕ) → Trail g (marks means notes) u back a → AllByRecursion (λ x. x ≡ w → ⊥) (u ∷ back)
       → w ≡ g.from → ⊥
   trail_ends [] u a w r fresh e = fresh.0 (r.2 ∙ sym e)
   trail_ends (p ∷ back) u a w r fresh e = trail_ends back p r.0 w r.3 fresh.1 e

@@ -7,7 +7,7 @@
 --     Frontier            what holds between two steps of the search
 --     Light               the bulks of the noted amounts are small
 use Rattle.std.specs.Prelude.{◌≡◌, ℕ, zero, suc, ◌+◌, ◌*◌, ◌<◌, ◌≤◌, ◌⊎◌, List, [], ◌∷◌, length, ◌≢◌}
-use Rattle.std.specs.List.{AllByRecursion as All}
+use Rattle.std.specs.List.{AllByRecursion}
 use Rattle.frontier.specs.Routes.{Search, Leq, Move, Route}
 
 -- nothing; or the best amount so far and the node before, which may still change or stand for good
@@ -53,7 +53,7 @@ module _ {M : Type 0} (g : Search M) (f : ℕ → Mark M) where
   abbrev pub Trail : ℕ → List ℕ → M → Type 0
   Trail u [] a = (p : ℕ) × (f u ≡ settled a p) × (u ≡ g.from) × (a ≡ g.sums.nothing)
   Trail u (p ∷ back) a = (b : M) × (c : M) × (f u ≡ settled a p) × Trail p back b × Move g p u c × (a ≡ g.sums.plus b c)
-      × All (λ x. x ≢ u) (p ∷ back)
+      × AllByRecursion (λ x. x ≢ u) (p ∷ back)
 
   -- a waiting node is the start, or was reached by a move from a settled node
   abbrev pub Origin : ℕ → M → ℕ → Type 0

@@ -37,12 +37,12 @@ pub fn find_least<C: Amount, G: Graph<C>>(
     frontier: &mut [Entry<C>],
 ) -> Found<C>
     ensures refused { refused result
-        ≡ unfit (shape graph.now).size from to (length notes.old) (length frontier.old) }
+        ≡ unfit (G.shape graph.now).size from to (length notes.old) (length frontier.old) }
     ensures answer { Answer
-        (search_from sums (shape graph.now) (price sums means graph.now) from) means to result }
+        (search_from C.sums (G.shape graph.now) (G.price C.sums C.means graph.now) from) C.means to result }
     ensures traced { Leaves
-        (search_from sums (shape graph.now) (price sums means graph.now) from)
-        means to notes.new result }
+        (search_from C.sums (G.shape graph.now) (G.price C.sums C.means graph.now) from)
+        C.means to notes.new result }
     ensures unchanged { refused result ≡ true
         → (notes.new ≡ notes.old) × (frontier.new ≡ frontier.old) }
 {

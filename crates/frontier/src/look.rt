@@ -12,7 +12,7 @@ use queue::Queue;
 
 /// Whether an amount is worth noting at a node of that note.
 fn better<C: Amount>(note: Note<C>, sum: C) -> bool
-    ensures { result ≡ worth sums (mark means note) (means sum) }
+    ensures { result ≡ worth C.sums (mark C.means note) (C.means sum) }
 {
     match note {
         Note::Unseen => true,
@@ -31,16 +31,16 @@ fn look_at<C: Amount, G: Graph<C>>(
     amount: C,
     way: u32,
 )
-    requires long { length notes.old ≡ (shape graph.now).size }
-    requires node { node < (shape graph.now).size }
+    requires long { length notes.old ≡ (G.shape graph.now).size }
+    requires node { node < (G.shape graph.now).size }
     requires way { way < 6 }
-    requires slots { 6 * (shape graph.now).size + 1 ≤ room queue.old }
+    requires slots { 6 * (G.shape graph.now).size + 1 ≤ room queue.old }
     ensures looking { LookedAt
-        sums means (shape graph.now) (price sums means graph.now) node (means amount) way
+        C.sums C.means (G.shape graph.now) (G.price C.sums C.means graph.now) node (C.means amount) way
         notes.old (waiting queue.old) notes.new (waiting queue.new) }
-    ensures stays { Stays (shape graph.now).size means
+    ensures stays { Stays (G.shape graph.now).size C.means
         notes.old notes.new (waiting queue.old) (waiting queue.new) 1 }
-    ensures order { Keeps (cheaper means sums) queue.old queue.new }
+    ensures order { Keeps (cheaper C.means C.sums) queue.old queue.new }
     ensures room { room queue.new ≡ room queue.old }
 {
     let Some(step) = graph.toward(node, way) else {
@@ -69,15 +69,15 @@ pub(crate) fn look_round<C: Amount, G: Graph<C>>(
     node: u32,
     amount: C,
 )
-    requires long { length notes.old ≡ (shape graph.now).size }
-    requires node { node < (shape graph.now).size }
-    requires slots { 6 * (shape graph.now).size + 1 ≤ room queue.old }
+    requires long { length notes.old ≡ (G.shape graph.now).size }
+    requires node { node < (G.shape graph.now).size }
+    requires slots { 6 * (G.shape graph.now).size + 1 ≤ room queue.old }
     ensures holds { LookedRound
-        sums means (shape graph.now) (price sums means graph.now) node (means amount)
+        C.sums C.means (G.shape graph.now) (G.price C.sums C.means graph.now) node (C.means amount)
         notes.old (waiting queue.old) notes.new (waiting queue.new) }
-    ensures stays { Stays (shape graph.now).size means
+    ensures stays { Stays (G.shape graph.now).size C.means
         notes.old notes.new (waiting queue.old) (waiting queue.new) 6 }
-    ensures order { Keeps (cheaper means sums) queue.old queue.new }
+    ensures order { Keeps (cheaper C.means C.sums) queue.old queue.new }
     ensures room { room queue.new ≡ room queue.old }
 {
     for way in 0..6 {

@@ -32,15 +32,15 @@ pub(crate) fn spread<C: Amount, G: Graph<C>>(
     queue: &mut Queue<'_, Entry<C>>,
 ) -> Option<C>
     requires blank { (k : ℕ) → slice_index_or notes.old k Unseen ≡ Unseen }
-    requires long { length notes.old ≡ (shape graph.now).size }
-    requires start { from < (shape graph.now).size }
+    requires long { length notes.old ≡ (G.shape graph.now).size }
+    requires start { from < (G.shape graph.now).size }
     requires empty { waiting queue.old ≡ [] }
-    requires order { Ordered (cheaper means sums) queue.old }
-    requires slots { 6 * (shape graph.now).size + 1 ≤ room queue.old }
+    requires order { Ordered (cheaper C.means C.sums) queue.old }
+    requires slots { 6 * (G.shape graph.now).size + 1 ≤ room queue.old }
     ensures { MatchOption result
-        (HasNoRoute (search_from sums (shape graph.now) (price sums means graph.now) from) to)
-        (λ a. Reached (search_from sums (shape graph.now) (price sums means graph.now) from)
-        means notes.new to (means a)) }
+        (HasNoRoute (search_from C.sums (G.shape graph.now) (G.price C.sums C.means graph.now) from) to)
+        (λ a. Reached (search_from C.sums (G.shape graph.now) (G.price C.sums C.means graph.now) from)
+        C.means notes.new to (C.means a)) }
 {
     let none = C::zero();
     notes[from as usize] = Note::Waiting(none, from);

@@ -1,7 +1,7 @@
 -- How many numbers are in a list without repeats. Assumes nothing.
 use Rattle.std.proofs.Common.{◌≡◌, ℕ, zero, suc, ◌+◌, ◌*◌, ◌<◌, ◌≤◌, Bool, true, false, cond, not, ◌||◌, T, eqb, ltb, List, [], ◌∷◌, length, get_or, take, filter, sym, refl, ap, ◌∙◌, subst, inl, inr, arith, eqb→eq, length-take, le-ltb}
 use lib.Dec.{eqb_refl}
-use Rattle.std.specs.List.{ContainsAt as Has, AllByRecursion as All}
+use Rattle.std.specs.List.{ContainsAt as Has, AllByRecursion}
 use Rattle.std.specs.List.Sorted.{IsPermutation}
 use Rattle.geometry.specs.Lists.{mem, distinct}
 use Rattle.queue.specs.Distinct.{Climbs, MoreThan, Collected, allowed}
@@ -27,7 +27,7 @@ place_mem n (m ∷ ns) (suc k) h e = second (eqb n m) (mem n ns) (place_mem n ns
 pub has_mem : (n : ℕ) (ns : List ℕ) → Has ns n → T (mem n ns)
 has_mem n ns h = place_mem n ns h.0 h.1 (h.2 0)
 
-pub mem_has_all : (P : ℕ → Type 0) (ns : List ℕ) (n : ℕ) → All P ns → T (mem n ns) → P n
+pub mem_has_all : (P : ℕ → Type 0) (ns : List ℕ) (n : ℕ) → AllByRecursion P ns → T (mem n ns) → P n
 mem_has_all P [] n a h = absurd h
 mem_has_all P (m ∷ ns) n a h = elim (either (eqb n m) (mem n ns) h) [
   | inl e ↦ subst P (sym (eqb→eq n m e)) a.0

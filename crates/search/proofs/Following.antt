@@ -1,7 +1,7 @@
 -- The routes of a grid as a graph are the lawful routes along its lines. Assumes nothing.
 use Rattle.std.proofs.Common.{◌≡◌, ℕ, ◌+◌, ◌<◌, ◌≤◌, Bool, true, false, T, leb, List, [], ◌∷◌, map, get_or, Some, sym, refl, ap, ◌∙◌, subst, arith, le→leb}
 use Rattle.std.specs.Option.{option_map}
-use Rattle.std.specs.List.{AllByRecursion as All}
+use Rattle.std.specs.List.{AllByRecursion}
 use Rattle.costs.specs.Amounts.{Sums, Prices, Tariff, tariff}
 use Rattle.frontier.specs.Routes.{Search, search_from, Route, Move as Hop}
 use Rattle.geometry.specs.declared.piece.Piece.{Piece}
@@ -145,7 +145,7 @@ module _ {K P C M : Type 0} (g : Grid K P) (ruled : Ruled g) (pieces : List Piec
     pub costs : cost tf (pt u) moves ≡ a
     pub visits : stops (pt u) moves ≡ map pt nodes
     pub are : moves ≡ joins_from (pt u) (map pt nodes)
-    pub stay : All (λ v. v < node_total g.lattice) nodes
+    pub stay : AllByRecursion (λ v. v < node_total g.lattice) nodes
 
   pub follow : (u : ℕ) (nodes : List ℕ) (t : ℕ) (a : M) → u < node_total g.lattice → Route S u nodes t a → Followed u nodes t a
   follow u [] t a h r = record { moves = []; on_lines = tt; is_lawful = tt; ends = ap pt r.0; costs = sym r.1; visits = refl; are = refl; stay = tt }

@@ -1,7 +1,7 @@
 -- The way that the notes of a search lead back, turned round, visits no point twice. Assumes nothing.
 use Rattle.std.proofs.Common.{◌≡◌, ℕ, ◌<◌, not, ◌&&◌, T, eqb, List, [], ◌∷◌, map, sym, ap, inl, inr, eqb→eq}
 use mathlib.Core.List.{reverse_aux}
-use Rattle.std.specs.List.{AllByRecursion as All}
+use Rattle.std.specs.List.{AllByRecursion}
 use Rattle.frontier.specs.Front.{Mark, Trail}
 use Rattle.frontier.specs.Routes.{Search}
 use Rattle.frontier.proofs.Trails.{turned}
@@ -14,12 +14,12 @@ use Rattle.routes.proofs.Bools.{left, right, both, either, refute}
 
 abbrev pub Apart : List ℕ → Type 0
 Apart [] = Unit {0}
-Apart (n ∷ ns) = All (λ x. x ≡ n → ⊥) ns × Apart ns
+Apart (n ∷ ns) = AllByRecursion (λ x. x ≡ n → ⊥) ns × Apart ns
 
 abbrev pub Cross : List ℕ → List ℕ → Type 0
-Cross ns ms = All (λ n. All (λ x. x ≡ n → ⊥) ms) ns
+Cross ns ms = AllByRecursion (λ n. AllByRecursion (λ x. x ≡ n → ⊥) ms) ns
 
-cross_more : (u : ℕ) (ns ms : List ℕ) → All (λ x. x ≡ u → ⊥) ns → Cross ns ms → Cross ns (u ∷ ms)
+cross_more : (u : ℕ) (ns ms : List ℕ) → AllByRecursion (λ x. x ≡ u → ⊥) ns → Cross ns ms → Cross ns (u ∷ ms)
 cross_more u [] ms a c = tt
 cross_more u (n ∷ ns) ms a c = (((λ e. a.0 (sym e)), c.0), cross_more u ns ms a.1 c.1)
 
@@ -57,7 +57,7 @@ same_says p q h =
     λ i. record { layer = layer i; x = x i; y = y i }
 
 module _ (pt : ℕ → Point) (size : ℕ) (one : (u w : ℕ) → u < size → w < size → pt u ≡ pt w → u ≡ w) where
-  nowhere : (n : ℕ) (ns : List ℕ) → n < size → All (λ v. v < size) ns → All (λ x. x ≡ n → ⊥) ns
+  nowhere : (n : ℕ) (ns : List ℕ) → n < size → AllByRecursion (λ v. v < size) ns → AllByRecursion (λ x. x ≡ n → ⊥) ns
       → T (any_of (same_point (pt n)) (map pt ns)) → ⊥
   nowhere n [] h a b t = t
   nowhere n (m ∷ ns) h a b t = elim (either (same_point (pt n) (pt m)) (any_of (same_point (pt n)) (map pt ns)) t) [
@@ -65,7 +65,7 @@ module _ (pt : ℕ → Point) (size : ℕ) (one : (u w : ℕ) → u < size → w
     | inr r ↦ nowhere n ns h a.1 b.1 r
   ]
 
-  pub points_apart : (ns : List ℕ) → All (λ v. v < size) ns → Apart ns → T (none_twice (map pt ns))
+  pub points_apart : (ns : List ℕ) → AllByRecursion (λ v. v < size) ns → Apart ns → T (none_twice (map pt ns))
   points_apart [] a b = tt
   points_apart (n ∷ ns) a b =
       both (not (any_of (same_point (pt n)) (map pt ns))) (none_twice (map pt ns))
