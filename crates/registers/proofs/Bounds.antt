@@ -1,12 +1,12 @@
 -- Pieces within the bounds of a chain. Assumes nothing.
-use Rattle.std.proofs.Common.{◌≡◌, ℕ, ◌+◌, ◌≤◌, max, Bool, true, false, ◌&&◌, eqb, ℤ, pos, ◌+ℤ◌, ◌-ℤ◌, sym, refl, ap, ◌∙◌, inl, inr, arith}
+use Rattle.std.proofs.Common.{◌≡◌, ℕ, ◌+◌, ◌≤◌, max, true, false, ◌&&◌, eqb, ℤ, pos, ◌+ℤ◌, ◌-ℤ◌, inl, inr, arith}
 use lib.Signed.{lt_z, le_z}
 use Rattle.std.specs.Int.{int_min, int_max}
 use Rattle.std.proofs.lemmas.Bool.{and_parts, and_from, and_left, and_right, and_cases, leb-true, le-leb, ne_eqb}
-use Rattle.std.proofs.lemmas.Int.{ints, clamps}
+use Rattle.std.proofs.lemmas.Int.{ints}
 use Rattle.geometry.specs.declared.piece.Piece.{Piece}
 use Rattle.geometry.specs.declared.question.Question.{Question}
-use Rattle.geometry.specs.Zones.{crosses, widened, zone, meets, counts, in_way}
+use Rattle.geometry.specs.Zones.{crosses, zone, counts, in_way}
 use Rattle.geometry.specs.Nets.{different_nets}
 use Rattle.registers.specs.declared.chain.Chain.{Chain}
 use Rattle.registers.specs.Strips.{chain_with, within_chain, chain_near}

@@ -1,6 +1,6 @@
 -- The first slots of a row, where a count is cut to the room. Assumes nothing.
 use Rattle.std.proofs.Common.{◌≡◌, ℕ, ◌+◌, ◌<◌, min, not, List, [], ◌∷◌, ◌++◌, length, take, set, sym, ap, ◌∙◌, inl, inr, arith, length-take, take_all}
-use lib.Seq.{take_length}
+use lib.Seq.{take-length}
 use Rattle.std.proofs.lemmas.List.Filters.{FiltersInPlace}
 use Rattle.std.proofs.lemmas.List.{take_more_set}
 use Rattle.std.proofs.lemmas.Bool.{cases_lt}
@@ -16,7 +16,7 @@ stand_is count n xs e = elim (cases_lt (min count 4096) (length xs)) [
   | inl h ↦ let same : n ≡ min count 4096 = omega arith in ap (λ k. take k xs) same
   | inr h ↦
       let whole : n ≡ length xs = omega arith in
-      ap (λ k. take k xs) whole ∙ take_length xs ∙ sym (take_all (min count 4096) xs h)
+      ap (λ k. take k xs) whole ∙ take-length xs ∙ sym (take_all (min count 4096) xs h)
 ]
 
 pub stand_set : (count : ℕ) (xs : List Piece) (p : Piece) → count < room xs

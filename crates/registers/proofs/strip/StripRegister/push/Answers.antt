@@ -1,11 +1,11 @@
-use Rattle.std.proofs.Common.{◌≡◌, ℕ, ◌+◌, ◌<◌, List, length, set, sym, ap, ◌∙◌, subst, arith, length-set, get_or-set_other, get_or-set_same, rules}
+use Rattle.std.proofs.Common.{◌≡◌, ◌+◌, ◌<◌, length, set, sym, ap, ◌∙◌, arith, length-set, get_or-set_other, get_or-set_same, rules}
 use Rattle.registers.specs.Chainings.{no_piece, piece_at, links_with, heads_with, Chained}
 use Rattle.registers.proofs.Linking.{chained_alike, chained_more, chained_like}
 use Rattle.registers.proofs.Keeps.{is_chained}
 use Rattle.registers.proofs.strip.StripRegister.push.Goals as goal
 
-pub invariant-of-self : goal.invariant-of-self
-invariant-of-self c =
+pub invariant_of-self : goal.invariant_of-self
+invariant_of-self c =
     let me = c.args.self.now in
     let old = me.chains in
     let grown = c.link.new.self in
@@ -25,4 +25,4 @@ invariant-of-self c =
     (chained_more ys n _ _ _ (omega (arith, c.requires)) (search rules) before) in
     let long : length ys ≡ length xs = length-set xs n p in
     let links : length grown.links.now ≡ length old.links.now = ap length c.link.ensures.links ∙ simp length-set in
-    (omega (arith, c.requires, links, long), (after.linked, (after.headed, (after.bounded, tt))))
+    record { within = omega (arith, c.requires, links, long); linked = after.linked; headed = after.headed; bounded = after.bounded }

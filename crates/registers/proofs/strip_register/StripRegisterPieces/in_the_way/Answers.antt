@@ -6,7 +6,7 @@ use Rattle.registers.proofs.Bounds.{not_in_way, not_on_layer}
 use Rattle.registers.proofs.Places.{layer_chain_below}
 use Rattle.registers.proofs.Walks.{none_in_way_of}
 use Rattle.registers.proofs.strip_register.StripRegisterPieces.in_the_way.Goals as goal
-use Rattle.registers.proofs.strip_register.StripRegisterPieces.in_the_way.Goals.{then-near+in-default, else-near}
+use Rattle.registers.proofs.strip_register.StripRegisterPieces.in_the_way.Goals.{then-near+in_default, else-near}
 
 pub returns : goal.returns
 returns c =
@@ -27,15 +27,15 @@ loop-s-preserved c k h same below =
     let chain = layer_chain me.chains.height (piece_at ps k).rect.y in
     elim (cases_eq chain c.loop-s.s) [
       | inl is ↦
-          let here : chain_at me.chains.height ps k ≡ c.first-chain-first.result + c.loop-s.s =
+          let here : chain_at me.chains.height ps k ≡ c.first_chain-first.result + c.loop-s.s =
           ap (λ l. first_chain l + chain) same
           ∙ ap (λ s. first_chain q.layer + s) is
-          ∙ ap (λ f. f + c.loop-s.s) (sym c.first-chain-first.ensures.is) in
+          ∙ ap (λ f. f + c.loop-s.s) (sym c.first_chain-first.ensures.is) in
           elim c.if-near.branch [
-            | then-near+in-default w ↦ w.in-default.ensures k h here
+            | then-near+in_default w ↦ w.in_default.ensures k h here
             | else-near w ↦
                 let heads = me.chains.heads in
-                let head = get_or heads (c.first-chain-first.result + c.loop-s.s) no_chain in
+                let head = get_or heads (c.first_chain-first.result + c.loop-s.s) no_chain in
                 let bound : within_chain head (piece_at ps k) ≡ true =
                 ap (λ v. within_chain (get_or heads v no_chain) (piece_at ps k)) (sym here) ∙ me.bounded k h in
                 not_in_way q head (piece_at ps k) bound (sym w.if-near.ensures)
