@@ -1,5 +1,5 @@
 -- Worked cases of the rules. A panel of 100 by 60 has two layers; a wire is 4 wide, keeps a space of 3, and a pad is 6 wide. A
--- keep_out stands on layer 1 from 40, 0 to 50, 60 with space 0, unless said. Assumes nothing.
+-- keep-out stands on layer 1 from 40, 0 to 50, 60 with space 0, unless said. Assumes nothing.
 use Rattle.std.specs.Prelude.{◌≡◌, ℕ, zero, suc, Bool, true, false, cond, not, ◌&&◌, ◌||◌, List, [], ◌∷◌, pos, ◌==◌}
 use Rattle.geometry.specs.declared.class.Class.{Class}
 use Rattle.geometry.specs.declared.piece.Piece.{Piece}
@@ -19,7 +19,7 @@ point l a b = record { layer = l; x = a; y = b }
 abbrev pub thin : Class
 thin = record { half = 2; space = 3; pad = 3; measured = tt }
 
--- a keep_out on layer 1 from 40 to 50 in x
+-- a keep-out on layer 1 from 40 to 50 in x
 abbrev pub keep_out : ℕ → ℕ → Piece
 keep_out low high = record {
   layer = 1;
@@ -61,7 +61,7 @@ rows =
     ∷ row (keep_out 0 20 ∷ keep_out 30 60 ∷ []) (point 1 10 25) (along_x 90 ∷ []) true
     ∷ row (keep_out 0 20 ∷ keep_out 30 60 ∷ []) (point 1 10 24) (along_x 90 ∷ []) false
     ∷ row (keep_out 0 20 ∷ keep_out 30 60 ∷ []) (point 1 10 26) (along_x 90 ∷ []) false
-    -- the path of the sample is lawful, as runs and in steps; straight through the keep_out is not
+    -- the path of the sample is lawful, as runs and in steps; straight through the keep-out is not
     ∷ row (keep_out 0 60 ∷ []) (point 1 10 30) over true
     ∷ row (keep_out 0 60 ∷ []) (point 1 10 30) (in_steps (point 1 10 30) over) true
     ∷ row (keep_out 0 60 ∷ []) (point 1 10 30) (along_x 90 ∷ []) false

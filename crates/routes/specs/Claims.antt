@@ -1,18 +1,18 @@
 -- What is proved of routes, each as a sentence over every panel: its sizes, a class, a net and the pieces that stand. Where
 -- costs are compared it is over every sum with the laws of amounts, and over all prices. Assumes nothing.
---     LinesSuffice                     every path has a line route that is no dearer
+--     LinesSuffice                  every path has a line route that is no dearer
 --     LeastOnLinesIsLeast           so a bound on the cost of the line routes is one on that of all paths
 --     NoLineRouteNoPath             and without a line route there is no path
---     OwnLinesAreEnough              the lines of a request are enough lines for it
+--     OwnLinesAreEnough             the lines of a request are enough lines for it
 --     LinesLieOnThePanel            they lie on the panel
---     LinesAreFew                     they are at most four for each piece, and two
---     RoutesArePaths                  a lawful route, in steps, is a lawful path of the same cost and points
+--     LinesAreFew                   they are at most four for each piece, and two
+--     RoutesArePaths                a lawful route, in steps, is a lawful path of the same cost and points
 --     LineRoutesAreUnitRoutes       so every line route stands for a path
---     StraightRuns                     a move is lawful exactly if its steps are
---     WholeRunsAreLawful             from point to point of a lawful route lead lawful runs and vias
+--     StraightRuns                  a move is lawful exactly if its steps are
+--     WholeRunsAreLawful            from point to point of a lawful route lead lawful runs and vias
 --     RunKeepsClear, ViaKeepsClear  what is laid for a lawful move keeps its clearance
---     ClearPiecesKeepClear           and so do the pieces
---     LaidPiecesKeepOrder            pieces laid along a lawful route leave the standing pieces in order
+--     ClearPiecesKeepClear          and so do the pieces
+--     LaidPiecesKeepOrder           pieces laid along a lawful route leave the standing pieces in order
 use Rattle.std.specs.Prelude.{◌≡◌, ℕ, ◌+◌, ◌*◌, ◌≤◌, T, List, ◌++◌, length, nat_le, nat_lt}
 use Rattle.geometry.specs.declared.class.Class.{Class}
 use Rattle.geometry.specs.declared.piece.Piece.{Piece}

@@ -5,7 +5,7 @@
 --     enough_lines                    some lines have all lines of a request among them
 --     neighbours qs a b               two lines with no other between them
 --     line_move X Y p m               a move from a crossing of lines to the next one, or a via at a crossing
---     LineRoute, LinePath           a lawful route along the lines; a least-cost one that visits no node twice
+--     LineRoute, LinePath             a lawful route along the lines; a least-cost one that visits no node twice
 use Rattle.std.specs.Prelude.{◌≡◌, ℕ, ◌*◌, min, max, Bool, cond, not, ◌&&◌, T, List, [], ◌∷◌, length, ℤ, pos, negsuc, filter, ◌==◌, nat_le, nat_lt}
 use Rattle.geometry.specs.declared.class.Class.{Class}
 use Rattle.geometry.specs.declared.piece.Piece.{Piece}

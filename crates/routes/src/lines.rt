@@ -6,14 +6,14 @@ use costs::Amount;
 
 /// Every lawful path has a lawful route along enough lines that costs no more, for every kind of amount.
 pub fn lines_suffice<C: Amount>() -> u8
-    ensures { LinesSuffice C.Amount.sums }
+    ensures { LinesSuffice C.sums }
 {
     0
 }
 
 /// What no lawful route along enough lines costs less than, no lawful path costs less than.
 pub fn least_on_lines_is_least<C: Amount>() -> u8
-    ensures { LeastOnLinesIsLeast C.Amount.sums }
+    ensures { LeastOnLinesIsLeast C.sums }
 {
     0
 }

@@ -5,14 +5,14 @@ use costs::Amount;
 
 /// The steps of a lawful route are a lawful path of the same cost and with the same points.
 pub fn routes_are_paths<C: Amount>() -> u8
-    ensures { RoutesArePaths C.Amount.sums }
+    ensures { RoutesArePaths C.sums }
 {
     0
 }
 
 /// Every lawful route along lines has a lawful path of the same cost and with the same points.
 pub fn line_routes_are_unit_routes<C: Amount>() -> u8
-    ensures { LineRoutesAreUnitRoutes C.Amount.sums }
+    ensures { LineRoutesAreUnitRoutes C.sums }
 {
     0
 }
