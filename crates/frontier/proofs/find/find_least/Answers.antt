@@ -13,7 +13,7 @@ spread-requires g c =
     (length c.args.frontier.now) (sym c.is_unfit.ensures ∙ c.if-is_unfit.false) in
     record {
       blank = c.clear.ensures;
-      long = c.clear.auto.notes ∙ length-take-le _ _ (omega (arith, F.all_Noted)) ∙ is;
+      long = c.clear.auto.notes ∙ length-take-le _ _ (omega (arith, F.all_noted)) ∙ is;
       start = omega (arith, is, F.start);
       empty = c.new-queue.ensures.waits;
       order = c.new-queue.ensures.order;
