@@ -6,7 +6,7 @@ use Rattle.search.proofs.grid.Grid.price.Goals as goal
 
 pub returns-then-p-q-2 : goal.returns-then-p-q-2
 returns-then-p-q-2 g c =
-    let a = g.Amount.Amount in
+    let a = g.K.Amount.Amount in
     let s = a.sums in
     let p = c.args.p.now in
     let q = c.args.q.now in
@@ -27,7 +27,7 @@ returns-then-p-q-2 g c =
 
 pub returns-else-p-q-2 : goal.returns-else-p-q-2
 returns-else-p-q-2 g c =
-    let a = g.Amount.Amount in
+    let a = g.K.Amount.Amount in
     let s = a.sums in
     let p = c.args.p.now in
     let q = c.args.q.now in
