@@ -1,12 +1,12 @@
 -- What every run keeps: the standing pieces in order, and so their clearance. Assumes nothing.
-use Rattle.std.proofs.Common.{◌≡◌, ℕ, ◌+◌, Bool, true, false, not, T, List, [], ◌∷◌, ◌++◌, map, Ok, Err, sym, refl, ap, ◌∙◌, subst}
+use Rattle.std.proofs.Common.{◌≡◌, ℕ, ◌+◌, Bool, true, false, not, T, List, [], ◌∷◌, ◌++◌, Ok, Err, refl}
 use Rattle.geometry.specs.Clearance.{proper, clear, in_order}
 use Rattle.geometry.specs.Lists.{all_of}
 use Rattle.geometry.specs.Zones.{none_in_way}
 use Rattle.panel.specs.declared.sheet.Sheet.{Sheet}
 use Rattle.panel.specs.Standing.{Standing, nothing_stands}
 use Rattle.panel.specs.Calls.{room_for}
-use Rattle.panel.specs.Runs.{Event, placing, lifting, next, told_from, told, Answered, RunFrom, Run, PromiseFrom, Promise, RunsKeepThePromise}
+use Rattle.panel.specs.Runs.{Event, placing, lifting, next, told_from, Answered, RunFrom, PromiseFrom, RunsKeepThePromise}
 use Rattle.panel.proofs.Facts.{right}
 use Rattle.panel.proofs.Orders.{kept_in_order}
 use Rattle.panel.proofs.Placing.{placed_in_order}

@@ -1,5 +1,5 @@
 -- What taking pieces out leaves in order, and what adding one does. Assumes nothing.
-use Rattle.std.proofs.Common.{Bool, true, false, cond, ◌&&◌, T, List, [], ◌∷◌, ◌++◌, filter}
+use Rattle.std.proofs.Common.{Bool, true, false, cond, T, List, [], ◌∷◌, ◌++◌, filter}
 use Rattle.geometry.specs.Lists.{all_of}
 use Rattle.geometry.specs.Clearance.{proper, keep_clear, clear, in_order}
 use Rattle.geometry.specs.declared.piece.Piece.{Piece}

@@ -1,5 +1,5 @@
 -- A placed piece that no laid one is in the way of keeps the pieces in order. Assumes nothing.
-use Rattle.std.proofs.Common.{◌≡◌, ℕ, Bool, true, false, not, ◌&&◌, ◌||◌, T, eqb, ltb, List, [], ◌∷◌, ◌++◌, sym, ap, subst}
+use Rattle.std.proofs.Common.{ℕ, Bool, true, false, not, ◌&&◌, ◌||◌, T, eqb, ltb, List, [], ◌∷◌, ◌++◌, sym, subst}
 use Rattle.geometry.specs.Lists.{all_of}
 use Rattle.geometry.specs.Zones.{in_way, none_in_way, in_way_by}
 use Rattle.geometry.specs.Clearance.{keep_clear, in_order}

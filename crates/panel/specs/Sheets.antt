@@ -2,7 +2,7 @@
 --     Blank                                nothing is set
 --     size_answer, class_answer            what setting the size or a class answers
 --     Resized, Reclassed                   the sheet once the size or a class was set
-use Rattle.std.specs.Prelude.{◌≡◌, ℕ, ◌-◌, cond, ◌&&◌, set, replicate, Some, None, Ok, Err, Result, slice_set}
+use Rattle.std.specs.Prelude.{◌≡◌, ℕ, ◌-◌, cond, ◌&&◌, replicate, Some, None, Ok, Err, Result, slice_set}
 use Rattle.geometry.specs.Ranges.{ranges, class_measures}
 use Rattle.geometry.specs.Classes.{HasMeasures}
 use Rattle.geometry.specs.declared.class.Class.{Class}

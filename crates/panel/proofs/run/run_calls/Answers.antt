@@ -1,4 +1,4 @@
-use Rattle.std.proofs.Common.{◌≡◌, ℕ, ◌+◌, List, [], ◌∷◌, ◌++◌, length, get_or, take, vec_items, sym, refl, ap, ◌∙◌, subst, arith}
+use Rattle.std.proofs.Common.{◌≡◌, ℕ, List, [], ◌∷◌, ◌++◌, get_or, take, vec_items, sym, refl, ◌∙◌, subst}
 use Rattle.std.proofs.lemmas.List.{take_more, take_all}
 use Rattle.panel.specs.declared.calls.Call.{Call}
 use Rattle.panel.specs.declared.calls.Call.TheVariants.{Place}
@@ -36,7 +36,7 @@ loop-call-preserved g c =
     let more : SoFar s places (take i calls ++ (call ∷ [])) (vec_items c.loop-call.answers ++ (c.make.result ∷ [])) st' =
     so_far_more s places (take i calls) (vec_items c.loop-call.answers) st st' call c.make.result c.loop-call.invariant.0 made in (
       subst (λ cs. SoFar s places cs (vec_items c.push.new.self) st') (sym (take_more calls i none c.loop-call-test.true))
-          (subst (λ bs. SoFar s places (take i calls ++ (call ∷ [])) bs st') (sym c.in-ok-push.ensures.items) more),
+          (subst (λ bs. SoFar s places (take i calls ++ (call ∷ [])) bs st') (sym c.in_ok-push.ensures.items) more),
       c.make.ensures.setup.sheet_is ∙ c.loop-call.invariant.1,
       c.make.ensures.setup.places_is ∙ c.loop-call.invariant.2,
     )

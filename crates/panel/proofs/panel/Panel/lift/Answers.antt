@@ -1,4 +1,4 @@
-use Rattle.std.proofs.Common.{◌≡◌, T, List, sym, refl, ap, ◌∙◌, subst, inl}
+use Rattle.std.proofs.Common.{T, List, sym, refl, ap, ◌∙◌, subst, inl}
 use Rattle.geometry.specs.Clearance.{in_order}
 use Rattle.geometry.specs.declared.piece.Piece.{Piece}
 use Rattle.registers.specs.Standing.{of_job}
@@ -10,7 +10,7 @@ use Rattle.panel.proofs.panel.Panel.lift.Goals as goal
 pub returns-then-count-eq0 : goal.returns-then-count-eq0
 returns-then-count-eq0 g c =
     let ps = g.R.Pieces.pieces c.args.self.now.register in
-    let done = c.take-out-count.ensures in
+    let done = c.take_out-count.ensures in
     let none = sym done.answer ∙ c.if-count-eq0.true in
     let same = done.stands ∙ none_out (of_job c.args.job) ps none in
     let as-standing : List Piece → Standing = λ qs. record { pieces = qs; jobs = c.args.self.now.last } in
@@ -24,7 +24,7 @@ returns-then-count-eq0 g c =
 pub returns : goal.returns
 returns g c =
     let ps = g.R.Pieces.pieces c.args.self.now.register in
-    let done = c.take-out-count.ensures in
+    let done = c.take_out-count.ensures in
     let as-standing : List Piece → Standing = λ qs. record { pieces = qs; jobs = c.args.self.now.last } in
     record {
       answer = (((λ none. some_pass (of_job c.args.job) ps (λ z. c.if-count-eq0.false (done.answer ∙ z)) none), tt), done.answer);

@@ -1,9 +1,8 @@
-use Rattle.std.proofs.Common.{◌≡◌, ◌+◌, true, T, ltb, List, [], ◌∷◌, ◌++◌, length, sym, refl, ap, ◌∙◌, subst, inl, inr, arith, rules}
+use Rattle.std.proofs.Common.{◌≡◌, ◌+◌, true, T, List, [], ◌∷◌, ◌++◌, length, sym, refl, ap, ◌∙◌, subst, inl, inr, arith, rules}
 use Rattle.std.proofs.lemmas.Bool.{lt-ltb}
 use Rattle.geometry.specs.Clearance.{in_order}
 use Rattle.geometry.specs.Zones.{none_in_way, in_way_by}
 use Rattle.geometry.specs.declared.piece.Piece.{Piece}
-use Rattle.geometry.specs.declared.question.Question.{Question}
 use Rattle.registers.specs.Standing.{appended_if}
 use Rattle.panel.specs.Standing.{placed}
 use Rattle.panel.specs.Calls.{misplaced, room_for}
@@ -14,7 +13,7 @@ pub returns-in-Some : goal.returns-in-Some
 returns-in-Some g c =
     let ps : List Piece = g.R.Pieces.pieces c.args.self.now.register in
     let named : T (in_way_by (room_for c.args.a.now) ps c.in-Some.job) =
-    subst (λ q. T (in_way_by q ps c.in-Some.job)) c.room-for.ensures c.in-Some.ensures in
+    subst (λ q. T (in_way_by q ps c.in-Some.job)) c.room_for.ensures c.in-Some.ensures in
     record {
       answer = inr (search rules, inr (search rules, inr (search rules, inl (refl, blocked (room_for c.args.a.now) ps c.in-Some.job named, named))));
       stands = refl;
@@ -27,10 +26,10 @@ returns g c =
     let ps : List Piece = g.R.Pieces.pieces c.args.self.now.register in
     let piece : Piece = placed c.args.a.now (c.args.self.now.last + 1) in
     let room : T (none_in_way (room_for c.args.a.now) ps) =
-    subst (λ q. T (none_in_way q ps)) c.room-for.ensures c.in-default.ensures in
+    subst (λ q. T (none_in_way q ps)) c.room_for.ensures c.in_default.ensures in
     let added : c.add.result ≡ true = c.add.ensures.answer ∙ lt-ltb (length ps) _ (omega (arith, c.free.ensures)) in
     let stand : g.R.Pieces.pieces c.add.new.self ≡ ps ++ (piece ∷ []) =
-    c.add.ensures.stands ∙ (ap (λ r. appended_if r c.piece-of.result ps) added ∙ ap (λ p. ps ++ (p ∷ [])) c.piece-of.ensures) in
+    c.add.ensures.stands ∙ (ap (λ r. appended_if r c.piece_of.result ps) added ∙ ap (λ p. ps ++ (p ∷ [])) c.piece_of.ensures) in
     let well : T (misplaced c.args.self.now.sheet c.args.a.now) → ⊥ = search rules in
     record {
       answer = search rules;
