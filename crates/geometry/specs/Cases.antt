@@ -51,7 +51,7 @@ net_rows =
 abbrev pub net_holds : NetRow → Bool
 net_holds w = agree (different_nets w.one w.other) w.differ
 
--- A row: a reach, a box at y 30 from one x to another, and whether the keep_out's zone at the class's space meets the box.
+-- A row: a reach, a box at y 30 from one x to another, and whether the keep-out's zone at the class's space meets the box.
 pub record ZoneRow : Type 0 where
   pub reach : ℕ
   pub from : ℕ
@@ -96,7 +96,7 @@ gap_holds w =
     && agree (not (in_way (room_of (beside w.gap)) wire)) w.suffices
 
 pub record WorkedZones : Type 0 where
-  -- The keep_out's wire zone runs from 35 to 55 in x, its via zone from 34 to 56.
+  -- The keep-out's wire zone runs from 35 to 55 in x, its via zone from 34 to 56.
   pub wire_zone : zone keep_out thin.half thin.space ≡ rectangle (pos 35) (negsuc 4) (pos 55) (pos 65)
   pub via_zone : zone keep_out thin.pad thin.space ≡ rectangle (pos 34) (negsuc 5) (pos 56) (pos 66)
   pub nets : all_of net_holds net_rows ≡ true
