@@ -3,7 +3,7 @@
 --   row_at, row_of      the row of a layer: absent, or blank, where there is no such layer
 --   row_answer          what setting a row answers
 --   rows_after          the list once a row was set or refused
-use Rattle.std.specs.Prelude.{ℕ, ◌-◌, Bool, cond, ◌&&◌, set, replicate, Some, None, Ok, Err, Option, Result, nat_le, slice_index_or, slice_set}
+use Rattle.std.specs.Prelude.{ℕ, ◌-◌, Bool, cond, ◌&&◌, replicate, Some, None, Ok, Err, Option, Result, nat_le, slice_index_or, slice_set}
 use Rattle.std.specs.Option.{unwrap_or}
 use Rattle.costs.specs.declared.prices.Row.{Row}
 use Rattle.costs.specs.declared.prices.PriceList.{PriceList}

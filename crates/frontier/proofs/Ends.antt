@@ -1,9 +1,9 @@
 -- How a search begins, and what it has found when it ends. Assumes nothing.
-use Rattle.std.proofs.Common.{◌≡◌, ℕ, ◌+◌, ◌*◌, ◌<◌, ◌≤◌, ◌⊎◌, List, [], sym, ap, ◌∙◌, subst, subst₂, inl, inr, ⊎_elim, arith}
+use Rattle.std.proofs.Common.{◌≡◌, ℕ, ◌<◌, [], sym, ap, ◌∙◌, subst, subst₂, inl, ⊎_elim, arith}
 use native.Mathlib.Decide.{ℕ_discrete}
 use Rattle.costs.specs.Amounts.{Laws}
-use Rattle.frontier.specs.Routes.{Search, Leq, Route, LeastCost, HasNoRoute}
-use Rattle.frontier.specs.Front.{Mark, unseen, waits, settled, settled_below, Nothing, Frontier, Light}
+use Rattle.frontier.specs.Routes.{Search, LeastCost, HasNoRoute}
+use Rattle.frontier.specs.Front.{Mark, unseen, waits, settled, Nothing, Frontier, Light}
 use Rattle.frontier.proofs.Marks.{not_both, unseen_waits, unseen_settled, waits_same}
 use Rattle.frontier.proofs.Settle.{leaves}
 use Rattle.frontier.proofs.Trails.{trail_route, turned}

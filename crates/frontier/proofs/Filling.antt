@@ -1,7 +1,7 @@
 -- Counting and writing the nodes that notes lead back. Assumes nothing.
-use Rattle.std.proofs.Common.{◌≡◌, ℕ, zero, suc, ◌+◌, ◌-◌, ◌<◌, ◌≤◌, List, [], ◌∷◌, reverse, length, get_or, drop, set, Some, sym, refl, ap, ◌∙◌, subst, arith}
+use Rattle.std.proofs.Common.{◌≡◌, ℕ, ◌+◌, ◌-◌, ◌<◌, ◌≤◌, List, [], ◌∷◌, reverse, length, get_or, drop, set, Some, sym, refl, ap, ◌∙◌, arith}
 use mathlib.Core.List.{reverse_aux}
-use Rattle.std.proofs.lemmas.List.{drop-set, nil_from_length, drop_all}
+use Rattle.std.proofs.lemmas.List.{drop-set, drop_all}
 use Rattle.frontier.specs.declared.note.Note.{Note}
 use Rattle.frontier.specs.declared.note.Note.TheVariants.{Unseen, Waiting, Settled}
 use Rattle.frontier.specs.Ways.{previous_node, before_of, Leads}

@@ -1,15 +1,15 @@
 -- One look at a neighbour, over the notes and the entries. Assumes nothing.
-use Rattle.std.proofs.Common.{◌≡◌, ℕ, ◌+◌, ◌-◌, ◌*◌, ◌^◌, ◌<◌, ◌≤◌, Bool, true, false, T, ◌⊎◌, List, [], ◌∷◌, length, set, Some, None, sym, refl, ap, ◌∙◌, subst, subst₂, inl, inr, ⊎_elim, mul-le-mul_left, arith, length-set}
+use Rattle.std.proofs.Common.{◌≡◌, ℕ, ◌+◌, ◌*◌, ◌^◌, ◌<◌, ◌≤◌, true, false, T, ◌⊎◌, List, ◌∷◌, length, set, Some, None, sym, refl, ap, ◌∙◌, subst, subst₂, inl, inr, mul-le-mul_left, arith, length-set}
 use native.Mathlib.Decide.{ℕ_discrete}
 use borrow.Author.Tests.{clash}
 use Rattle.std.specs.List.Sorted.{IsPermutation}
 use Rattle.costs.specs.Amounts.{Laws}
 use Rattle.frontier.specs.declared.entry.Entry.{Entry}
 use Rattle.frontier.specs.declared.note.Note.{Note}
-use Rattle.frontier.specs.declared.note.Note.TheVariants.{Unseen, Waiting, Settled}
-use Rattle.frontier.specs.Routes.{Search, Leq, Move}
-use Rattle.frontier.specs.Front.{Mark, unseen, waits, settled, settled_below, Within, Nothing, Joined, Marked, Frontier, Light}
-use Rattle.frontier.specs.Held.{mark, marks, Waits, worth, Ahead, Holds, Looking}
+use Rattle.frontier.specs.declared.note.Note.TheVariants.{Waiting}
+use Rattle.frontier.specs.Routes.{Search, Move}
+use Rattle.frontier.specs.Front.{Mark, waits, settled, settled_below, Within, Nothing, Joined, Marked, Frontier}
+use Rattle.frontier.specs.Held.{marks, Waits, worth, Ahead, Holds, Looking}
 use Rattle.frontier.proofs.Count.{count_le}
 use Rattle.frontier.proofs.Marks.{settled_same}
 use Rattle.frontier.proofs.Relax.{narrow, already, Relaxing, relax, relax_light, relax_within, relax_count, settled_kept}

@@ -6,8 +6,8 @@ use Rattle.std.proofs.lemmas.List.{get_or_read}
 use Rattle.costs.specs.Amounts.{Sums}
 use Rattle.frontier.specs.declared.entry.Entry.{Entry}
 use Rattle.frontier.specs.declared.note.Note.{Note}
-use Rattle.frontier.specs.declared.note.Note.TheVariants.{Unseen, Waiting, Settled}
-use Rattle.frontier.specs.Front.{Mark, unseen, waits, settled, once, settled_below, Marked}
+use Rattle.frontier.specs.declared.note.Note.TheVariants.{Unseen, Waiting}
+use Rattle.frontier.specs.Front.{Mark, unseen, waits, settled, once, Marked}
 use Rattle.frontier.specs.Held.{mark, marks, worth, Stays}
 use Rattle.frontier.proofs.Count.{count_same}
 use Rattle.frontier.proofs.Marks.{not_both}

@@ -1,10 +1,10 @@
 -- The moves from the node that was settled last are looked at one by one. Assumes nothing.
-use Rattle.std.proofs.Common.{◌≡◌, ℕ, ◌+◌, ◌*◌, ◌<◌, ◌≤◌, false, T, ◌⊎◌, List, [], ◌∷◌, length, sym, refl, ap, ◌∙◌, subst, subst₂, inl, inr, ⊎_elim, arith}
+use Rattle.std.proofs.Common.{◌≡◌, ℕ, ◌*◌, ◌<◌, ◌≤◌, false, T, ◌⊎◌, [], ◌∷◌, sym, refl, ap, ◌∙◌, subst, subst₂, inl, inr, ⊎_elim, arith}
 use native.Mathlib.Decide.{ℕ_discrete}
 use Rattle.costs.specs.Amounts.{Laws}
 use Rattle.costs.proofs.Order.{leq_refl, leq_of_not}
-use Rattle.frontier.specs.Routes.{Search, Leq, Move, Route}
-use Rattle.frontier.specs.Front.{Mark, unseen, waits, settled, once, settled_below, Seen, Joined, Marked, Within, Trail, Origin}
+use Rattle.frontier.specs.Routes.{Search, Move, Route}
+use Rattle.frontier.specs.Front.{Mark, unseen, waits, settled, once, settled_below, Seen, Joined, Marked, Within}
 use Rattle.frontier.specs.Front.{Frontier, Light}
 use Rattle.frontier.proofs.Count.{count_same}
 use Rattle.frontier.proofs.Marks.{not_both, unseen_waits, unseen_settled, waits_same, waits_prev}

@@ -1,10 +1,10 @@
 -- A least entry is taken: of a settled node, which changes nothing, or of a waiting one, which is settled. Assumes nothing.
-use Rattle.std.proofs.Common.{◌≡◌, ℕ, zero, suc, ◌+◌, ◌*◌, ◌<◌, ◌≤◌, ◌⊎◌, List, [], ◌∷◌, length, sym, refl, ap, ◌∙◌, subst, subst₂, inl, inr, ⊎_elim, mul-suc, add-one, arith}
+use Rattle.std.proofs.Common.{◌≡◌, ℕ, ◌+◌, ◌*◌, ◌<◌, ◌⊎◌, List, [], ◌∷◌, length, sym, ap, ◌∙◌, subst, subst₂, inl, inr, ⊎_elim, mul-suc, add-one, arith}
 use native.Mathlib.Decide.{ℕ_discrete}
 use Rattle.costs.specs.Amounts.{Laws}
 use Rattle.costs.proofs.Order.{nothing_plus, leq_refl, leq_plus}
-use Rattle.frontier.specs.Routes.{Search, Leq, Move, Route}
-use Rattle.frontier.specs.Front.{Mark, unseen, waits, settled, once, settled_below, Seen, Nothing, Joined, Marked, Within}
+use Rattle.frontier.specs.Routes.{Search, Leq, Route}
+use Rattle.frontier.specs.Front.{Mark, waits, settled, once, settled_below, Seen, Nothing, Joined, Marked, Within}
 use Rattle.frontier.specs.Front.{Trail, Origin, Frontier, Light}
 use Rattle.frontier.proofs.Count.{count_more}
 use Rattle.frontier.proofs.Marks.{not_both, waits_same, settled_same}

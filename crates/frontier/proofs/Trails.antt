@@ -3,7 +3,7 @@ use Rattle.std.proofs.Common.{◌≡◌, ℕ, List, [], ◌∷◌, sym, refl, ap
 use Rattle.std.specs.List.{AllByRecursion}
 use Rattle.costs.specs.Amounts.{Laws}
 use Rattle.costs.proofs.Order.{nothing_plus}
-use Rattle.frontier.specs.Routes.{Search, Move, Route}
+use Rattle.frontier.specs.Routes.{Search, Route}
 use Rattle.frontier.specs.Front.{Mark, settled, Trail}
 
 -- the nodes back to the start, turned round, before those that follow u

@@ -1,5 +1,5 @@
 -- One turn of the search, over the notes and the entries. Assumes nothing.
-use Rattle.std.proofs.Common.{◌≡◌, ℕ, ◌+◌, ◌-◌, ◌*◌, ◌<◌, ◌≤◌, ◌⊎◌, List, [], ◌∷◌, length, get_or, set, sym, refl, ap, ◌∙◌, subst, inl, inr, arith, length-set, get_or-set_other, get_or-set_same}
+use Rattle.std.proofs.Common.{◌≡◌, ℕ, ◌+◌, ◌-◌, ◌*◌, ◌<◌, ◌⊎◌, List, [], ◌∷◌, length, get_or, set, sym, refl, ap, ◌∙◌, subst, inl, inr, arith, length-set, get_or-set_other, get_or-set_same}
 use Rattle.std.specs.List.Sorted.{IsPermutation}
 use Rattle.std.proofs.lemmas.List.{get_or_read}
 use Rattle.costs.specs.Amounts.{Laws}
@@ -8,8 +8,8 @@ use Rattle.frontier.specs.declared.entry.Entry.{Entry}
 use Rattle.frontier.specs.declared.note.Note.{Note}
 use Rattle.frontier.specs.declared.note.Note.TheVariants.{Unseen, Waiting, Settled}
 use Rattle.frontier.specs.Entries.{cheaper}
-use Rattle.frontier.specs.Routes.{Search, Leq, Move, HasNoRoute}
-use Rattle.frontier.specs.Front.{Mark, unseen, waits, settled, settled_below, Seen, Nothing, Joined, Frontier}
+use Rattle.frontier.specs.Routes.{Search, HasNoRoute}
+use Rattle.frontier.specs.Front.{Mark, waits, settled, settled_below, Seen, Nothing, Joined, Frontier}
 use Rattle.frontier.specs.Held.{mark, marks, Waits, Ahead, Holds, Looking, Stays, Reached}
 use Rattle.frontier.proofs.Count.{count_le}
 use Rattle.frontier.proofs.Ends.{Beginning, none_settled, begin, begin_light, found, none_left}

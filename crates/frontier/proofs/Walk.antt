@@ -1,12 +1,12 @@
 -- Following the notes back to the start. Assumes nothing.
-use Rattle.std.proofs.Common.{◌≡◌, ℕ, ◌+◌, ◌<◌, ◌≤◌, List, [], ◌∷◌, ◌++◌, reverse, length, get_or, drop, Some, None, Option, sym, refl, ap, ◌∙◌, subst, ap₂, arith}
+use Rattle.std.proofs.Common.{◌≡◌, ℕ, ◌+◌, ◌<◌, List, [], ◌∷◌, ◌++◌, reverse, length, get_or, drop, Some, None, Option, sym, refl, ap, ◌∙◌, subst, ap₂, arith}
 use native.Mathlib.Decide.{dec_lt}
 use Rattle.std.specs.List.{AllByRecursion}
 use Rattle.std.proofs.lemmas.List.{get_or_past, get_or_append_left}
 use Rattle.frontier.specs.declared.note.Note.{Note}
 use Rattle.frontier.specs.declared.note.Note.TheVariants.{Unseen, Waiting, Settled}
 use Rattle.frontier.specs.Routes.{Search}
-use Rattle.frontier.specs.Front.{Mark, settled, Trail}
+use Rattle.frontier.specs.Front.{settled, Trail}
 use Rattle.frontier.specs.Held.{mark, marks, Traced}
 use Rattle.frontier.specs.Ways.{Leads, Counted, Written}
 use Rattle.frontier.proofs.Trails.{trail_kept}

@@ -1,8 +1,8 @@
-use Rattle.std.proofs.Common.{◌≡◌, false, length, drop, sym, ap, ◌∙◌, subst, arith}
+use Rattle.std.proofs.Common.{length, drop, sym, ap, ◌∙◌, arith}
 use borrow.Author.Tests.{clash}
 use Rattle.std.proofs.lemmas.List.{length-take-le}
 use Rattle.frontier.specs.Findings.{unfit}
-use Rattle.frontier.proofs.Fit.{Fit, fit}
+use Rattle.frontier.proofs.Fit.{fit}
 use Rattle.frontier.proofs.Walk.{traced_front}
 use Rattle.frontier.proofs.find.find_least.Goals as goal
 

@@ -1,7 +1,6 @@
-use Rattle.std.proofs.Common.{◌≡◌, ℕ, ◌+◌, ◌<◌, ◌≤◌, true, length, sym, refl, ap, ◌∙◌, subst, arith, rules, lt-ltb}
-use Rattle.queue.specs.Waiting.{waiting}
+use Rattle.std.proofs.Common.{◌≡◌, ◌<◌, ◌≤◌, true, length, sym, refl, ap, ◌∙◌, subst, arith, rules, lt-ltb}
 use Rattle.frontier.specs.Graphs.{Priced}
-use Rattle.frontier.specs.Held.{mark, marks, worth}
+use Rattle.frontier.specs.Held.{marks, worth}
 use Rattle.frontier.proofs.Entering.{when_true, when_few}
 use Rattle.frontier.proofs.Looks.{look_none, look_shut, look_worse, look_better, look_spare, look_sum}
 use Rattle.frontier.proofs.Noting.{mark_read, stays_same, stays_put}

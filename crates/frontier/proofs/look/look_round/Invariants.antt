@@ -1,5 +1,5 @@
 -- The neighbours in the directions before this one were looked at.
-use Rattle.std.proofs.Common.{◌≡◌, ℕ, ◌+◌, ◌*◌, ◌≤◌}
+use Rattle.std.proofs.Common.{◌≡◌, ℕ}
 use Rattle.queue.specs.Waiting.{waiting, room, Keeps}
 use Rattle.frontier.specs.Entries.{cheaper}
 use Rattle.frontier.specs.Routes.{search_from}

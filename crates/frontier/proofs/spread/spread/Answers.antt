@@ -1,12 +1,11 @@
-use Rattle.std.proofs.Common.{◌≡◌, ℕ, ◌+◌, ◌<◌, ◌≤◌, true, [], ◌∷◌, length, sym, refl, ap, ◌∙◌, subst, arith, length-set, rules, lt-ltb}
+use Rattle.std.proofs.Common.{◌≡◌, ◌<◌, true, ◌∷◌, length, sym, ap, ◌∙◌, subst, arith, length-set, rules, lt-ltb}
 use Rattle.std.specs.List.Sorted.{IsPermutation}
 use Rattle.std.proofs.lemmas.List.Sorted.{IsPermutation-sym}
 use Rattle.queue.specs.Waiting.{waiting}
 use Rattle.frontier.specs.declared.entry.Entry.{Entry}
-use Rattle.frontier.specs.declared.note.Note.TheVariants.{Settled}
 use Rattle.frontier.specs.Routes.{search_from}
 use Rattle.frontier.specs.Front.{waits}
-use Rattle.frontier.specs.Held.{mark, marks, Reached}
+use Rattle.frontier.specs.Held.{mark, marks}
 use Rattle.frontier.proofs.Entering.{when_true}
 use Rattle.frontier.proofs.Noting.{mark_read}
 use Rattle.frontier.proofs.Turn.{begin_held, begin_open, none_held, not_waiting, Taken}

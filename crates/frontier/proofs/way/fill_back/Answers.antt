@@ -1,4 +1,4 @@
-use Rattle.std.proofs.Common.{◌≡◌, ℕ, ◌∷◌, sym, ◌∙◌, arith}
+use Rattle.std.proofs.Common.{◌≡◌, ℕ, ◌∷◌, arith}
 use Rattle.frontier.proofs.Filling.{fill_start, fill_step, fill_end}
 use Rattle.frontier.proofs.way.fill_back.Goals as goal
 

@@ -1,4 +1,4 @@
-use Rattle.std.proofs.Common.{◌≡◌, ℕ, ◌+◌, [], ◌∷◌, length, Some, None, sym, refl, ap, ◌∙◌, subst, arith}
+use Rattle.std.proofs.Common.{◌≡◌, ℕ, [], ◌∷◌, sym, refl, subst, arith}
 use Rattle.frontier.specs.Ways.{Leads}
 use Rattle.frontier.proofs.Filling.{next_node, leads_more}
 use Rattle.frontier.proofs.way.way_len.Goals as goal
