@@ -1,5 +1,5 @@
 -- What a reader of words has left.
-use Rattle.std.proofs.Common.{◌≡◌, ℕ, ◌<◌, ◌≤◌, true, false, leb, List, [], length, drop}
+use Rattle.std.proofs.Common.{◌≡◌, ◌≤◌, true, false, leb, [], length, drop}
 use Rattle.std.proofs.lemmas.Bool.{cond-true, cond-false, and_from, and_left, le-leb}
 use Rattle.job.specs.declared.reader.WordReader.{WordReader}
 use Rattle.job.specs.Text.{words}

@@ -2,8 +2,6 @@
 use Rattle.std.proofs.Common.{◌≡◌, ℕ, ◌+◌, List, [], ◌∷◌, ◌++◌, IfOk, Ok, Err, Option, Result, sym, refl, ap, ◌∙◌, subst, append_assoc, MatchResult}
 use Rattle.panel.specs.declared.calls.Call.{Call}
 use Rattle.job.specs.declared.refused.Refused.{Refused}
-use Rattle.job.specs.declared.said.Reply.{Reply}
-use Rattle.job.specs.declared.said.Reply.TheVariants as reply
 use Rattle.job.specs.declared.said.Said.{Said}
 use Rattle.job.specs.declared.setup.Setup.{Setup}
 use Rattle.job.specs.Text.{words}

@@ -2,7 +2,7 @@
 --     verb bytes               the kind of a line, by its first word
 --     read_all k end words     k numbers and no word behind them
 --     ..-line end words        what the words behind the first one say, or the place of what does not fit
-use Rattle.std.specs.Prelude.{ℕ, Bool, true, false, cond, List, [], ◌∷◌, drop, Some, None, Ok, Err, codes, Option, Result, slice_index}
+use Rattle.std.specs.Prelude.{ℕ, Bool, true, false, cond, List, drop, Some, None, Ok, Err, codes, Option, Result, slice_index}
 use Rattle.std.specs.Str.{bytes_eq}
 use Rattle.panel.specs.declared.calls.Placement.{Placement}
 use Rattle.job.specs.declared.reader.Unreadable.{Unreadable}

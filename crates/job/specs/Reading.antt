@@ -3,7 +3,7 @@
 --     of_words f w             what f makes of the line's length and these words
 --     read-.. end words        what the first of some words is read as, or the place of what does not fit; `end` is the line's
 --                              length, which is the place of a word that is missing
-use Rattle.std.specs.Prelude.{ℕ, zero, suc, Bool, true, false, cond, ◌&&◌, ◌||◌, List, [], ◌∷◌, ◌++◌, length, drop, Some, None, Ok, Err, Option, Result, nat_le}
+use Rattle.std.specs.Prelude.{ℕ, zero, suc, Bool, true, false, cond, ◌&&◌, List, [], ◌∷◌, ◌++◌, length, drop, Some, None, Ok, Err, Option, Result, nat_le}
 use Rattle.std.specs.Str.{bytes_eq}
 use Rattle.job.specs.declared.reader.WordReader.{WordReader}
 use Rattle.job.specs.declared.reader.Unreadable.{Unreadable}

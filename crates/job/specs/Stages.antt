@@ -3,7 +3,7 @@
 --     line_says verb ..        what the words behind the first one come to: nothing more, a call, or a refusal
 --     answer_of stage bytes    what a line comes to at a stage
 --     stage_after stage bytes  the stage behind it
-use Rattle.std.specs.Prelude.{ℕ, Bool, true, false, cond, List, [], ◌∷◌, length, Some, None, Ok, Err, Option, Result, ◌==◌, nat_lt}
+use Rattle.std.specs.Prelude.{ℕ, Bool, cond, List, [], ◌∷◌, length, Some, None, Ok, Err, Option, Result, ◌==◌, nat_lt}
 use Rattle.costs.specs.Rows.{row_answer}
 use Rattle.costs.specs.declared.prices.RowRefusal.{RowRefusal}
 use Rattle.panel.specs.Sheets.{size_answer, class_answer}
@@ -17,7 +17,7 @@ use Rattle.job.specs.declared.forms.Verb.TheVariants as verbs
 use Rattle.job.specs.declared.setup.Stage.{Stage}
 use Rattle.job.specs.declared.setup.Stage.TheVariants as stages
 use Rattle.job.specs.declared.refused.Refused.{Refused}
-use Rattle.job.specs.declared.refused.Refused.TheVariants.{ByJob, BySheet, ByPanel}
+use Rattle.job.specs.declared.refused.Refused.TheVariants.{ByJob, BySheet}
 use Rattle.job.specs.Text.{WordAt, words}
 use Rattle.job.specs.Reading.{unreadable, read_end}
 use Rattle.job.specs.Forms.{verb, at_end, panel_line, layer_line, class_line, place_line, lift_line}

@@ -1,5 +1,5 @@
 -- The routes of a grid as a graph are the lawful routes along its lines. Assumes nothing.
-use Rattle.std.proofs.Common.{◌≡◌, ℕ, ◌+◌, ◌<◌, ◌≤◌, Bool, true, false, T, leb, List, [], ◌∷◌, map, get_or, Some, sym, refl, ap, ◌∙◌, subst, arith, le→leb}
+use Rattle.std.proofs.Common.{◌≡◌, ℕ, ◌+◌, ◌<◌, ◌≤◌, Bool, true, false, T, List, [], ◌∷◌, map, get_or, Some, sym, refl, ap, ◌∙◌, subst, arith, le→leb}
 use Rattle.std.specs.Option.{option_map}
 use Rattle.std.specs.List.{AllByRecursion}
 use Rattle.costs.specs.Amounts.{Sums, Prices, Tariff, tariff}

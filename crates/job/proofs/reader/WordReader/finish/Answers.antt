@@ -1,4 +1,4 @@
-use Rattle.std.proofs.Common.{◌≡◌, ℕ, List, drop, sym, ap, ◌∙◌}
+use Rattle.std.proofs.Common.{ℕ, List, drop, sym, ap, ◌∙◌}
 use Rattle.job.specs.Reading.{read_end}
 use Rattle.job.proofs.Cuts.{words_cut}
 use Rattle.job.proofs.Lefts.{left_more}

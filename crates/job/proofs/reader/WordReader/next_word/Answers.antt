@@ -1,7 +1,7 @@
-use Rattle.std.proofs.Common.{◌≡◌, ℕ, ◌+◌, ◌-◌, ◌<◌, ◌≤◌, false, List, [], ◌∷◌, length, take, drop, sym, refl, ap, ◌∙◌, arith}
+use Rattle.std.proofs.Common.{◌≡◌, ℕ, ◌+◌, ◌-◌, ◌<◌, ◌≤◌, false, List, [], length, take, drop, refl, ap, ◌∙◌, arith}
 use Rattle.std.proofs.lemmas.List.{take_rest, length-drop}
 use Rattle.job.specs.declared.reader.WordReader.{WordReader}
-use Rattle.job.specs.Text.{WordAt, word_at, words, before}
+use Rattle.job.specs.Text.{words, before}
 use Rattle.job.specs.Reading.{left}
 use Rattle.job.proofs.Cuts.{words_from_more, words_from_last}
 use Rattle.job.proofs.Lefts.{left_more, left_none}

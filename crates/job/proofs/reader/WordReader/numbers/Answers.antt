@@ -1,9 +1,9 @@
-use Rattle.std.proofs.Common.{◌≡◌, ℕ, ◌+◌, ◌-◌, ◌<◌, List, [], ◌∷◌, ◌++◌, length, take, drop, set, Ok, Err, sym, refl, ap, ◌∙◌, arith, length-set}
+use Rattle.std.proofs.Common.{◌≡◌, ℕ, ◌-◌, ◌<◌, List, length, take, drop, Ok, Err, sym, refl, ap, ◌∙◌, arith, length-set}
 use Rattle.std.proofs.lemmas.List.{take_more_set, drop-drop, take_all, length-replicate}
 use Rattle.std.proofs.lemmas.Result.{err_from_is_err_and}
 use Rattle.job.specs.Text.{WordAt}
 use Rattle.job.specs.Numbers.{number}
-use Rattle.job.specs.Reading.{left, read_by, behind, read_numbers}
+use Rattle.job.specs.Reading.{left, read_by}
 use Rattle.job.proofs.Numbered.{behind_none, read_goes_on, read_stops, read_ends}
 use Rattle.job.proofs.reader.WordReader.numbers.Goals as goal
 
