@@ -1,8 +1,8 @@
 -- Moves between nodes, and the routes that they make. Assumes nothing.
---     Search             sums of amounts, a graph with the price of each move, and the node that a search starts from
---     Move g u w c       one may go from u to its neighbour w, for c
---     Route g u vs t a   from u one comes to t by way of vs, and pays a in all
---     LeastCost g t a   some route from the start to t costs a, and none costs less
+--     Search               sums of amounts, a graph with the price of each move, and the node that a search starts from
+--     Move g u w c         one may go from u to its neighbour w, for c
+--     Route g u vs t a     from u one comes to t by way of vs, and pays a in all
+--     LeastCost g t a      some route from the start to t costs a, and none costs less
 --     HasNoRoute g t       there is no route from the start to t
 use Rattle.std.specs.Prelude.{◌≡◌, ℕ, ◌<◌, true, T, List, [], ◌∷◌, Some}
 use Rattle.costs.specs.Amounts.{Sums}

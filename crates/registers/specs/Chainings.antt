@@ -1,10 +1,10 @@
 -- When the first pieces of a list are chained through a list of links. Assumes nothing.
---     piece_at ps k          the k-th piece, counted from 0
---     chain_at height ps k   the chain that it belongs to
+--     piece_at ps k           the k-th piece, counted from 0
+--     chain_at height ps k    the chain that it belongs to
 --     links_with, heads_with  a piece is put at the end of its chain
---     last_in f s n          the last of the first n places that is in chain s, counted from 1, or 0 if none is
---     Chained                the first n pieces are chained
---     strip_room             the least of the slots, the links and 4,096
+--     last_in f s n           the last of the first n places that is in chain s, counted from 1, or 0 if none is
+--     Chained                 the first n pieces are chained
+--     strip_room              the least of the slots, the links and 4,096
 use Rattle.std.specs.Prelude.{◌≡◌, ℕ, zero, suc, ◌+◌, ◌<◌, min, true, cond, List, length, get_or, pos, ◌==◌, slice_index, slice_index_or, slice_set}
 use Rattle.geometry.specs.declared.rect.Span.{Span}
 use Rattle.geometry.specs.declared.piece.Mark.TheVariants.{Placed}

@@ -3,8 +3,8 @@
 --     of_job job p            a piece has this job number
 --     without_job job ps      the pieces of all other jobs, in their order
 --     count_of_job job ps     how many pieces have the number
---     ToldPiece ps k r       r is the k-th piece from 0, or absent
---     ToldInWay q ps r      r is the job number of a piece in the way, or absent
+--     ToldPiece ps k r        r is the k-th piece from 0, or absent
+--     ToldInWay q ps r        r is the job number of a piece in the way, or absent
 use Rattle.std.specs.Prelude.{◌≡◌, ℕ, ◌+◌, ◌<◌, ◌≤◌, Bool, cond, not, T, List, [], ◌∷◌, ◌++◌, length, filter, Option, MatchOption, ◌==◌, slice_index_or, refl}
 use Rattle.std.proofs.lemmas.List.Filters.{length-filter_both}
 use Rattle.geometry.specs.declared.piece.Piece.{Piece}

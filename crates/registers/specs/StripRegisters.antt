@@ -1,8 +1,8 @@
 -- What a strip register means. Assumes nothing.
 --     strip_places r          the least of its slots, its links and 4,096
 --     strip_pieces r          the pieces in the first of its slots
---     NoneInChain s q r     no piece of chain s is in the way
---     ToldInChain s q r     what the walk of a chain tells
+--     NoneInChain s q r       no piece of chain s is in the way
+--     ToldInChain s q r       what the walk of a chain tells
 --     Emptied, Pushed p       what becomes of a register as it is emptied, and as a piece is put behind all others
 use Rattle.std.specs.Prelude.{◌≡◌, ℕ, ◌+◌, ◌<◌, ◌≤◌, false, T, List, length, take, Option, MatchOption, slice_set}
 use Rattle.std.proofs.Common.{arith, length-take}

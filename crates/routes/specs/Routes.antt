@@ -1,12 +1,12 @@
 -- Routes on the layers of a panel: where they end, which are lawful and what they cost. Assumes nothing.
---     after p m, end p r          where a move from a point ends, and a route
---     Rules                       what a panel allows: its size, and which boxes are free for wires and for vias
---     box p q                     the closed box from a point to another
---     lawful_move R p m           a move stays on the panel and on free ground
---     lawful R p r                each move of a route is lawful
---     step p m, Path R s t r      a move by one unit; a lawful path from s to t, all of steps
+--     after p m, end p r              where a move from a point ends, and a route
+--     Rules                           what a panel allows: its size, and which boxes are free for wires and for vias
+--     box p q                         the closed box from a point to another
+--     lawful_move R p m               a move stays on the panel and on free ground
+--     lawful R p r                    each move of a route is lawful
+--     step p m, Path R s t r          a move by one unit; a lawful path from s to t, all of steps
 --     unit_steps p m, in_steps p r    a move, and a route, cut into steps
---     price tf p m, cost tf p r   what a move costs, and a route
+--     price tf p m, cost tf p r       what a move costs, and a route
 use Rattle.std.specs.Prelude.{◌≡◌, ℕ, zero, suc, ◌+◌, ◌-◌, min, max, Bool, true, false, cond, not, ◌&&◌, T, List, [], ◌∷◌, ◌++◌, pos, ◌==◌, nat_le, nat_lt}
 use Rattle.geometry.specs.declared.point.Point.{Point}
 use Rattle.geometry.specs.declared.rect.Span.{Span}

@@ -1,12 +1,12 @@
 -- How the lines of a request are drawn. Assumes nothing.
---     HasRoom k q             k more numbers can wait
+--     HasRoom k q              k more numbers can wait
 --     Puts ns q q'             the numbers ns wait too
 --     zone_borders far d s     both borders of a span moved out by d, as far as they lie from 0 to far
 --     piece_borders e c p      the borders of both zones of a piece, as far as they lie on the panel
 --     all_borders e c net ps   those of the pieces of a different net
 --     short_lists m j k        the list of coordinates or that of lines is too short, where m pieces stand
---     ToldLines ls out n      the first n of out are the lines ls, ascending, each once
---     ToldDrawn ls out r      r tells how many lines there are, or that they are too many
+--     ToldLines ls out n       the first n of out are the lines ls, ascending, each once
+--     ToldDrawn ls out r       r tells how many lines there are, or that they are too many
 use Rattle.std.specs.Prelude.{◌≡◌, ℕ, ◌+◌, ◌*◌, ◌<◌, ◌≤◌, Bool, true, false, ◌||◌, ltb, List, [], ◌∷◌, ◌++◌, length, take, nat_lt}
 use Rattle.std.specs.List.Sorted.{IsPermutation}
 use Rattle.geometry.specs.declared.class.Class.{Class}

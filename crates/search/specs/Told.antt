@@ -1,11 +1,11 @@
 -- What a search for a path answers. Assumes nothing.
---     GridOf q ps g           g is the grid of a request where these pieces stand
+--     GridOf q ps g            g is the grid of a request where these pieces stand
 --     Passed q ps j k k'       no check turns the request down before its nodes are counted
---     ToldRefusal             why it is turned down, and that no check before does
---     ToldLattice             the lines of the request stand first in the lists of lines
---     LeastPath tf R s t a    some lawful path costs a, and none costs less
---     Led, LedBack            the notes of a search lead back along a least-cost path
---     ToldPath, ToldCost     the least cost of a lawful path, or that there is none, or a refusal
+--     ToldRefusal              why it is turned down, and that no check before does
+--     ToldLattice              the lines of the request stand first in the lists of lines
+--     LeastPath tf R s t a     some lawful path costs a, and none costs less
+--     Led, LedBack             the notes of a search lead back along a least-cost path
+--     ToldPath, ToldCost       the least cost of a lawful path, or that there is none, or a refusal
 use Rattle.std.specs.Prelude.{◌≡◌, ℕ, ◌+◌, ◌*◌, ◌<◌, Bool, true, false, List, ◌∷◌, map, reverse, length, Ok, Err, Result}
 use Rattle.costs.specs.Amounts.{Tariff}
 use Rattle.frontier.specs.declared.note.Note.{Note}
