@@ -14,8 +14,7 @@ mod sums;
 
 use collect::check_distinct;
 use comparisons::count_comparisons;
-use costs::Money;
-use costs::money::Amount;
+use costs::{Amount, Money};
 use drain::fill_and_drain;
 use frontier::Entry;
 use mixed::mix;

@@ -72,7 +72,7 @@ pub(crate) fn draw_lattice<P: Pieces>(
     xs: &mut [u32],
     ys: &mut [u32],
 ) -> Result<Lattice, Refusal>
-    ensures answer { ToldLattice request.now (pieces register.now) (length coordinates.old) (length xs.old) (length ys.old) xs.new ys.new result }
+    ensures answer { ToldLattice request.now (P.pieces register.now) (length coordinates.old) (length xs.old) (length ys.old) xs.new ys.new result }
     ensures unchanged { T (is_early result) → (coordinates.new ≡ coordinates.old) × (xs.new ≡ xs.old) × (ys.new ≡ ys.old) }
 {
     if !request.is_proper() {

@@ -71,8 +71,8 @@ fn put_pieces<P: Pieces>(
     net: u8,
     register: &P,
 )
-    requires { HasRoom (4 * length (pieces register.now)) queue.old }
-    ensures { Puts (all_borders extent.now class.now net (pieces register.now)) queue.old queue.new }
+    requires { HasRoom (4 * length (P.pieces register.now)) queue.old }
+    ensures { Puts (all_borders extent.now class.now net (P.pieces register.now)) queue.old queue.new }
 {
     let mut k = 0;
     while let Some(piece) = register.piece(k) {
@@ -91,8 +91,8 @@ fn put_coordinates<P: Pieces>(
     net: u8,
     register: &P,
 )
-    requires { HasRoom (4 * length (pieces register.now) + 2) queue.old }
-    ensures { Puts (extent_coordinates extent.now class.now net (pieces register.now)) queue.old queue.new }
+    requires { HasRoom (4 * length (P.pieces register.now) + 2) queue.old }
+    ensures { Puts (extent_coordinates extent.now class.now net (P.pieces register.now)) queue.old queue.new }
 {
     queue.put(extent.first);
     queue.put(extent.second);
@@ -119,8 +119,8 @@ pub fn draw_lines<P: Pieces>(
     coordinates: &mut [u32],
     lines: &mut [u32],
 ) -> Drawn
-    ensures short { is_short result ≡ short_lists (length (pieces register.now)) (length coordinates.old) (length lines.old) }
-    ensures lines { ToldDrawn (extent_lines extent.now class.now net (pieces register.now)) lines.new result }
+    ensures short { is_short result ≡ short_lists (length (P.pieces register.now)) (length coordinates.old) (length lines.old) }
+    ensures lines { ToldDrawn (extent_lines extent.now class.now net (P.pieces register.now)) lines.new result }
     ensures unchanged { T (is_short result) → (coordinates.new ≡ coordinates.old) × (lines.new ≡ lines.old) }
 {
     if coordinates.len() < 4 * register.count() + 2 || lines.len() < LINES {

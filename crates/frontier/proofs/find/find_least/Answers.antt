@@ -10,10 +10,10 @@ pub spread-requires : goal.spread-requires
 spread-requires g c =
     let is = c.size-size.ensures in
     let F = fit c.size-size.result c.args.from c.args.to (length c.args.notes.now)
-    (length c.args.frontier.now) (sym c.is-unfit.ensures ∙ c.if-is-unfit.false) in
+    (length c.args.frontier.now) (sym c.is_unfit.ensures ∙ c.if-is_unfit.false) in
     record {
       blank = c.clear.ensures;
-      long = c.clear.auto.notes ∙ length-take-le _ _ (omega (arith, F.all_Noted)) ∙ is;
+      long = c.clear.auto.notes ∙ length-take-le _ _ (omega (arith, F.all_noted)) ∙ is;
       start = omega (arith, is, F.start);
       empty = c.new-queue.ensures.waits;
       order = c.new-queue.ensures.order;
@@ -24,7 +24,7 @@ pub returns-in-Some : goal.returns-in-Some
 returns-in-Some g c =
     let r = c.in-Some.ensures in
     record {
-      refused = sym c.if-is-unfit.false ∙ c.is-unfit.ensures
+      refused = sym c.if-is_unfit.false ∙ c.is_unfit.ensures
           ∙ ap (λ n. unfit n c.args.from c.args.to (length c.args.notes.now) (length c.args.frontier.now))
           c.size-size.ensures;
       answer = r.least;

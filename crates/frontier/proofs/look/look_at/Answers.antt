@@ -22,9 +22,9 @@ inside g c = (g.G.Graph.bounded c.args.graph.now).inside _ _ _ c.requires.node c
 fits : (g : given.Over) (c : In-Some g) → c.in-Some.step.0 < length c.args.notes.now
 fits g c = omega (arith, c.requires.long, inside g c)
 
-pub returns-in-default : goal.returns-in-default
-returns-in-default g c = record {
-  looking = λ from L. look_none g.C.Amount.laws c.requires.way L (c.in-default.ensures c.requires.node c.requires.way);
+pub returns-in_default : goal.returns-in_default
+returns-in_default g c = record {
+  looking = λ from L. look_none g.C.Amount.laws c.requires.way L (c.in_default.ensures c.requires.node c.requires.way);
   stays = stays_same _ _ _ _ _;
   order = λ h. h;
   room = refl;
@@ -33,9 +33,9 @@ returns-in-default g c = record {
 pub bounds-notes-neighbour : goal.bounds-notes-neighbour
 bounds-notes-neighbour g c = fits g (goal.at.bounds-notes-neighbour g c).In-Some
 
-pub offset-bounds-notes-neighbour : goal.offset-bounds-notes-neighbour
-offset-bounds-notes-neighbour g c =
-    let h : c.in-Some.step.0 < length c.args.notes.now = fits g (goal.at.offset-bounds-notes-neighbour g c).In-Some in
+pub offset_bounds-notes-neighbour : goal.offset_bounds-notes-neighbour
+offset_bounds-notes-neighbour g c =
+    let h : c.in-Some.step.0 < length c.args.notes.now = fits g (goal.at.offset_bounds-notes-neighbour g c).In-Some in
     search rules
 
 pub returns-then-not-better : goal.returns-then-not-better
@@ -59,10 +59,10 @@ returns-then-not-better g c =
       room = refl;
     }
 
-pub returns-then-not-is-free : goal.returns-then-not-is-free
-returns-then-not-is-free g c =
-    let next = (priced g (goal.at.returns-then-not-is-free g c).In-Some).next in
-    let shut = sym (c.is-free.ensures c.args.way c.requires.node c.requires.way next) ∙ c.if-not-is-free.true in
+pub returns-then-not-is_free : goal.returns-then-not-is_free
+returns-then-not-is_free g c =
+    let next = (priced g (goal.at.returns-then-not-is_free g c).In-Some).next in
+    let shut = sym (c.is_free.ensures c.args.way c.requires.node c.requires.way next) ∙ c.if-not-is_free.true in
     record {
       looking = λ from L. look_shut g.C.Amount.laws c.requires.way L next shut;
       stays = stays_same _ _ _ _ _;
@@ -73,9 +73,9 @@ returns-then-not-is-free g c =
 pub bounds-notes-neighbour-2 : goal.bounds-notes-neighbour-2
 bounds-notes-neighbour-2 g c = fits g (goal.at.bounds-notes-neighbour-2 g c).In-Some
 
-pub offset-bounds-notes-neighbour-2 : goal.offset-bounds-notes-neighbour-2
-offset-bounds-notes-neighbour-2 g c =
-    let h : c.in-Some.step.0 < length c.args.notes.now = fits g (goal.at.offset-bounds-notes-neighbour-2 g c).In-Some in
+pub offset_bounds-notes-neighbour-2 : goal.offset_bounds-notes-neighbour-2
+offset_bounds-notes-neighbour-2 g c =
+    let h : c.in-Some.step.0 < length c.args.notes.now = fits g (goal.at.offset_bounds-notes-neighbour-2 g c).In-Some in
     search rules
 
 pub returns : goal.returns
@@ -89,7 +89,7 @@ returns g c =
     let small = (g.G.Graph.bounded c.args.graph.now).small in
     let good = ap (λ x. worth m.sums x (m.means c.sum-sum.result)) (sym read) ∙ sym c.better.ensures
     ∙ c.if-not-better.false in
-    let free = sym (c.is-free.ensures c.args.way c.requires.node c.requires.way p.next) ∙ c.if-not-is-free.false in
+    let free = sym (c.is_free.ensures c.args.way c.requires.node c.requires.way p.next) ∙ c.if-not-is_free.false in
     let light = subst (λ x. m.sums.bulk x ≤ (g.G.Graph.shape c.args.graph.now).dearest) p.exact p.light in
     let e = c.put.ensures in
     record {

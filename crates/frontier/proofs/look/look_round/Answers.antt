@@ -10,7 +10,7 @@ loop-way-init g c = (λ from L. L, stays_same _ _ _ _ _, λ h. h, refl)
 
 pub loop-way-preserved : goal.loop-way-preserved
 loop-way-preserved g c =
-    let e = c.look-at.ensures in
+    let e = c.look_at.ensures in
     let i = c.loop-way.invariant in (
       λ from L. e.looking from (i.0 from L),
       stays_trans _ _ _ _ _ _ _ _ _ _ i.1 e.stays,

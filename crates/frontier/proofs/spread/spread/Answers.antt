@@ -36,12 +36,12 @@ loop-entry-init g c =
       omega (arith, e.room, c.requires.slots),
     )
 
-pub returns-in-default : goal.returns-in-default
-returns-in-default g c =
+pub returns-in_default : goal.returns-in_default
+returns-in_default g c =
     let m = g.C.Amount in
     let i = c.loop-entry.invariant in
     none_held _ m.laws m.means c.loop-entry.notes (waiting c.loop-entry.queue) i.0
-    c.in-default.ensures.len c.args.to i.1
+    c.in_default.ensures.len c.args.to i.1
 
 -- what the queue says of the entry
 taken : (g : given.Over) (c : In-Some g)
@@ -60,7 +60,7 @@ fits g c = omega (arith, turn_node g.C.Amount.laws (taken g c), c.loop-entry.inv
 -- the node of the entry waits
 waited : (g : given.Over) (c : In-Waiting g) → c.in-Some.entry.node < length c.loop-entry.notes
     → marks g.C.Amount.means c.loop-entry.notes c.in-Some.entry.node ≡ waits
-    (g.C.Amount.means c.in-Waiting.-best) c.in-Waiting.before
+    (g.C.Amount.means c.in-Waiting._best) c.in-Waiting.before
 waited g c l =
     let means = g.C.Amount.means in
     let note = c.index-notes-entry in
@@ -70,21 +70,21 @@ waited g c l =
 pub bounds-notes-entry : goal.bounds-notes-entry
 bounds-notes-entry g c = fits g (goal.at.bounds-notes-entry g c).In-Some
 
-pub offset-bounds-notes-entry : goal.offset-bounds-notes-entry
-offset-bounds-notes-entry g c =
+pub offset_bounds-notes-entry : goal.offset_bounds-notes-entry
+offset_bounds-notes-entry g c =
     let same = c.loop-entry.auto.notes ∙ length-set c.args.notes.now c.args.from _ in
     let h : c.in-Some.entry.node < length c.args.notes.now = omega
-    (arith, fits g (goal.at.offset-bounds-notes-entry g c).In-Some, same) in
+    (arith, fits g (goal.at.offset_bounds-notes-entry g c).In-Some, same) in
     search rules
 
 pub bounds-notes-entry-in-Waiting : goal.bounds-notes-entry-in-Waiting
 bounds-notes-entry-in-Waiting g c = fits g (goal.at.bounds-notes-entry-in-Waiting g c).In-Some
 
-pub offset-bounds-notes-entry-in-Waiting : goal.offset-bounds-notes-entry-in-Waiting
-offset-bounds-notes-entry-in-Waiting g c =
+pub offset_bounds-notes-entry-in-Waiting : goal.offset_bounds-notes-entry-in-Waiting
+offset_bounds-notes-entry-in-Waiting g c =
     let same = c.loop-entry.auto.notes ∙ length-set c.args.notes.now c.args.from _ in
     let h : c.in-Some.entry.node < length c.args.notes.now = omega
-    (arith, fits g (goal.at.offset-bounds-notes-entry-in-Waiting g c).In-Some, same) in
+    (arith, fits g (goal.at.offset_bounds-notes-entry-in-Waiting g c).In-Some, same) in
     search rules
 
 pub returns-then-entry-to : goal.returns-then-entry-to
@@ -94,9 +94,9 @@ returns-then-entry-to g c =
     let was = waited g s.In-Waiting (fits g s.In-Some) in
     turn_reached m.laws (taken g s.In-Some) was c.args.to c.if-entry-to.true
 
-pub look-round-requires : goal.look-round-requires
-look-round-requires g c =
-    let s = goal.at.look-round-requires g c in
+pub look_round-requires : goal.look_round-requires
+look_round-requires g c =
+    let s = goal.at.look_round-requires g c in
     let i = c.loop-entry.invariant in
     record {
       long = length-set c.loop-entry.notes c.in-Some.entry.node _ ∙ i.0.long;
@@ -108,7 +108,7 @@ pub loop-entry-smaller-in-Waiting : goal.loop-entry-smaller-in-Waiting
 loop-entry-smaller-in-Waiting g c =
     let s = goal.at.loop-entry-smaller-in-Waiting g c in
     turn_wanes g.C.Amount.laws (taken g s.In-Some) (waited g s.In-Waiting (fits g s.In-Some))
-    c.look-round.ensures.stays
+    c.look_round.ensures.stays
 
 pub loop-entry-preserved-in-Waiting : goal.loop-entry-preserved-in-Waiting
 loop-entry-preserved-in-Waiting g c =
@@ -117,7 +117,7 @@ loop-entry-preserved-in-Waiting g c =
     let K = taken g s.In-Some in
     let was = waited g s.In-Waiting (fits g s.In-Some) in
     let i = c.loop-entry.invariant in
-    let e = c.look-round.ensures in
+    let e = c.look_round.ensures in
     let t = c.in-Some.ensures in (
       e.holds c.args.from (turn_looking laws K was),
       turn_open laws K was e.stays c.args.to c.if-entry-to.false i.1,
@@ -136,7 +136,7 @@ loop-entry-preserved g c =
     let i = c.loop-entry.invariant in
     let t = c.in-Some.ensures in
     let old = not_waiting m.means c.loop-entry.notes c.in-Some.entry.node note.result (fits g s.In-Some)
-    note.is c.in-default-note.not-Waiting in (
+    note.is c.in_default-note.not-Waiting in (
       turn_stale m.laws (taken g s.In-Some) old,
       i.1,
       t.order i.2,

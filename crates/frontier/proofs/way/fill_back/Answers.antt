@@ -14,7 +14,7 @@ loop-i-preserved-in-Some g c = λ from back h long.
 
 pub loop-i-preserved : goal.loop-i-preserved
 loop-i-preserved g c = λ from back h long.
-    let this = c.in-default.ensures in
+    let this = c.in_default.ensures in
     fill_step c.args.notes.now from c.loop-i.node c.loop-i.node c.loop-i.i c.loop-i.way (c.args.to ∷ back)
     c.loop-i-test.true (omega arith) (λ p is. let z : ◌≡◌ {A = ℕ} 0 1 = cc in absurd (omega arith))
     (c.loop-i.invariant from back h long)

@@ -12,12 +12,12 @@ returns-then-count-notes g c = λ back h.
     let k = next_node c.args.notes.now c.args.from c.loop-node.node r.0 c.loop-node-test.true r.1 in
     omega (arith, r.2, k.4, c.if-count-notes.true)
 
-pub returns-in-default : goal.returns-in-default
-returns-in-default g c = λ back h.
+pub returns-in_default : goal.returns-in_default
+returns-in_default g c = λ back h.
     let r = c.loop-node.invariant.0 back h in
     let k = next_node c.args.notes.now c.args.from c.loop-node.node r.0 c.loop-node-test.true r.1 in
     let some = k.2 in
-    let none = c.in-default.ensures in
+    let none = c.in_default.ensures in
     let z : ◌≡◌ {A = ℕ} 0 1 = cc in
     absurd (omega arith)
 

@@ -21,7 +21,7 @@ returns g c =
       written = record {
         way = w;
         whole = ap (λ l. l ++ drop c.in-Some.count c.args.way.now)
-            (c.fill-back.ensures c.args.from w.back w.leads long);
+            (c.fill_back.ensures c.args.from w.back w.leads long);
       };
       unchanged = λ h. let z : ◌≡◌ {A = ℕ} 0 1 = cc in absurd (omega arith);
     }

@@ -21,11 +21,11 @@ returns-then-b-lt48 c =
       | then-b-lt48-via-else-b-lt48+then-b-gt57 w ↦ none (inr w.if-b-gt57.true)
     ]
 
-pub overflow-mul-value : goal.overflow-mul-value
-overflow-mul-value c = omega (arith, below_million c.loop-b.value c.loop-b.b-index c.loop-b.invariant.0 (omega arith))
+pub overflow_mul-value : goal.overflow_mul-value
+overflow_mul-value c = omega (arith, below_million c.loop-b.value c.loop-b.b-index c.loop-b.invariant.0 (omega arith))
 
-pub overflow-add-value : goal.overflow-add-value
-overflow-add-value c = omega (arith, below_million c.loop-b.value c.loop-b.b-index c.loop-b.invariant.0 (omega arith))
+pub overflow_add-value : goal.overflow_add-value
+overflow_add-value c = omega (arith, below_million c.loop-b.value c.loop-b.b-index c.loop-b.invariant.0 (omega arith))
 
 pub loop-b-preserved : goal.loop-b-preserved
 loop-b-preserved c =

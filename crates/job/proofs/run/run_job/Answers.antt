@@ -12,26 +12,26 @@ use Rattle.job.specs.Written.{text_of, long_text}
 use Rattle.job.specs.Transcripts.{Transcript, JobAnswered}
 use Rattle.job.proofs.run.run_job.Goals as goal
 
-pub returns-then-job-gt-JOB-BYTES : goal.returns-then-job-gt-JOB-BYTES
-returns-then-job-gt-JOB-BYTES c =
+pub returns-then-job-gt-JOB_BYTES : goal.returns-then-job-gt-JOB_BYTES
+returns-then-job-gt-JOB_BYTES c =
     let job : List ℕ = c.args.job.now in
-    IfOk-weaker c.from-str.result _ (λ text. JobAnswered job (string_bytes text))
-    (λ text e. subst (λ long. MatchBool long (string_bytes text ≡ long_text) (Transcript job (string_bytes text))) (sym (lt-ltb 65536 (length job) c.if-job-gt-JOB-BYTES.true)) e)
-    c.from-str.ensures.ok
+    IfOk-weaker c.from_str.result _ (λ text. JobAnswered job (string_bytes text))
+    (λ text e. subst (λ long. MatchBool long (string_bytes text ≡ long_text) (Transcript job (string_bytes text))) (sym (lt-ltb 65536 (length job) c.if-job-gt-JOB_BYTES.true)) e)
+    c.from_str.ensures.ok
 
 pub returns : goal.returns
 returns c =
     let job : List ℕ = c.args.job.now in
-    let script : Script = c.in-ok-script.script in
-    let read : Read job script = c.in-ok-script.ensures in
-    let answers : List Answer = vec_items c.in-ok-answers.answers in
-    let calls : c.as-slice.result.now ≡ calls_in (said Start 1 (lines job)) =
-    c.as-slice.ensures.value ∙ (read.calls_is ∙ ap calls_in read.said_is) in
-    let replies : c.as-slice-2.result.now ≡ said Start 1 (lines job) = c.as-slice-2.ensures.value ∙ read.said_is in
+    let script : Script = c.in_ok-script.script in
+    let read : Read job script = c.in_ok-script.ensures in
+    let answers : List Answer = vec_items c.in_ok-answers.answers in
+    let calls : c.as_slice.result.now ≡ calls_in (said Start 1 (lines job)) =
+    c.as_slice.ensures.value ∙ (read.calls_is ∙ ap calls_in read.said_is) in
+    let replies : c.as_slice-2.result.now ≡ said Start 1 (lines job) = c.as_slice-2.ensures.value ∙ read.said_is in
     let driven : Driven script.setup.sheet 256 (calls_in (said Start 1 (lines job))) answers =
-    subst (λ cs. Driven script.setup.sheet 256 cs answers) calls c.in-ok-answers.ensures in
-    IfOk-weaker c.write-all.result _ (λ text. JobAnswered job (string_bytes text))
-    (λ text e. subst (λ long. MatchBool long (string_bytes text ≡ long_text) (Transcript job (string_bytes text))) (sym (le-ltb 65536 (length job) c.if-job-gt-JOB-BYTES.false))
+    subst (λ cs. Driven script.setup.sheet 256 cs answers) calls c.in_ok-answers.ensures in
+    IfOk-weaker c.write_all.result _ (λ text. JobAnswered job (string_bytes text))
+    (λ text e. subst (λ long. MatchBool long (string_bytes text ≡ long_text) (Transcript job (string_bytes text))) (sym (le-ltb 65536 (length job) c.if-job-gt-JOB_BYTES.false))
     (record {
       unset = read.unset;
       unset_is = read.unset_is;
@@ -39,6 +39,6 @@ returns c =
       told = read.told;
       answers = answers;
       driven = driven;
-      text_is = e ∙ (ap (λ ss. text_of ss c.as-slice-3.result.now) replies ∙ ap (text_of (said Start 1 (lines job))) c.as-slice-3.ensures.value);
+      text_is = e ∙ (ap (λ ss. text_of ss c.as_slice-3.result.now) replies ∙ ap (text_of (said Start 1 (lines job))) c.as_slice-3.ensures.value);
     }))
-    c.write-all.ensures
+    c.write_all.ensures

@@ -29,7 +29,7 @@ loop-line-preserved c =
     let s : Setup = c.loop-line.setup in
     let t : Setup = c.line-answer.new.self in
     let next : ℕ = c.loop-line.reader.next in
-    let next' : ℕ = c.next-line.new.self.next in
+    let next' : ℕ = c.next_line.new.self.next in
     let same : c.loop-line.reader.job.now ≡ job = c.loop-line.invariant.0 in
     let cut : lines (drop next job) ≡ line ∷ lines (drop next' job) =
     ap (λ j. lines (drop next j)) (sym same) ∙ (c.in-Some.ensures.lines ∙ ap (λ j. line ∷ lines (drop next' j)) same) in
@@ -39,11 +39,11 @@ loop-line-preserved c =
       omega (arith, c.in-Some.ensures.further.1, ap length same),
       c.loop-line.invariant.3
           ∙ (said_more (vec_items c.loop-line.said) s t c.loop-line.number line _ _ _ cut c.line-answer.ensures.answer told
-          ∙ ap (λ so_far. so_far ++ said t.stage (c.loop-line.number + 1 + 1) (lines (drop next' job))) (sym c.in-ok-note.ensures.said)),
-      c.in-ok-note.ensures.calls
+          ∙ ap (λ so_far. so_far ++ said t.stage (c.loop-line.number + 1 + 1) (lines (drop next' job))) (sym c.in_ok-note.ensures.said)),
+      c.in_ok-note.ensures.calls
           ∙ (ap (λ cs. cs ++ calls_in (replied (c.loop-line.number + 1) c.line-answer.result)) c.loop-line.invariant.4
           ∙ (sym (calls_in-++ (vec_items c.loop-line.said) (replied (c.loop-line.number + 1) c.line-answer.result))
-          ∙ ap calls_in (sym c.in-ok-note.ensures.said))),
+          ∙ ap calls_in (sym c.in_ok-note.ensures.said))),
       λ u rest. c.loop-line.invariant.5 u (told_more s t u line _ _ cut told rest),
     )
 
@@ -51,7 +51,7 @@ pub returns : goal.returns
 returns c =
     let job : List ℕ = c.args.job.now in
     let next : ℕ = c.loop-line.reader.next in
-    let none : lines (drop next job) ≡ [] = ap (λ j. lines (drop next j)) (sym c.loop-line.invariant.0) ∙ c.in-default.ensures.lines in
+    let none : lines (drop next job) ≡ [] = ap (λ j. lines (drop next j)) (sym c.loop-line.invariant.0) ∙ c.in_default.ensures.lines in
     let P : List (List ℕ) → Type 0 = λ ls. Told c.loop-line.setup ls c.loop-line.setup in
     record {
       unset = c.new-setup.result;

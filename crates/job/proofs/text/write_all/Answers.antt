@@ -18,9 +18,9 @@ pub loop-s-preserved : goal.loop-s-preserved
 loop-s-preserved c =
     c.loop-s.invariant
     ∙ text_more c.args.said.now c.loop-s.s-index nothing c.loop-s.left.now c.behind-left.result.now
-    (string_bytes c.loop-s.text) (string_bytes c.in-ok-reply.reply) (string_bytes c.push-str.new.self)
-    c.loop-s-test.true c.in-ok-reply.ensures c.behind-left.ensures
-    (c.in-ok-push-str.ensures.bytes ∙ ap (λ t. string_bytes c.loop-s.text ++ t) c.as-str.ensures.value)
+    (string_bytes c.loop-s.text) (string_bytes c.in_ok-reply.reply) (string_bytes c.push_str.new.self)
+    c.loop-s-test.true c.in_ok-reply.ensures c.behind-left.ensures
+    (c.in_ok-push_str.ensures.bytes ∙ ap (λ t. string_bytes c.loop-s.text ++ t) c.as_str.ensures.value)
 
 pub returns : goal.returns
 returns c =

@@ -12,13 +12,13 @@ loop-i-init g c =
     let e : g.row.N - 0 ≡ g.row.N = omega arith in
     (rw e (sym (behind_none _)), refl, refl, length-replicate g.row.N 0)
 
-pub returns-in-err-values : goal.returns-in-err-values
-returns-in-err-values g c =
-    let p = err_from_is_err_and c.from-residual.result c.from-residual.ensures.1 in
+pub returns-in_err-values : goal.returns-in_err-values
+returns-in_err-values g c =
+    let p = err_from_is_err_and c.from_residual.result c.from_residual.ensures.1 in
     let end : ℕ = length c.args.self.now.line.now in
     let ws : List WordAt = left c.loop-i.self in
-    let stop : read_by number end ws ≡ Err c.in-err-values.field-0.0 =
-    ap (λ l. read_by number (length l) ws) (sym c.loop-i.invariant.2) ∙ (sym c.number.ensures.answer ∙ c.in-err-values.was) in
+    let stop : read_by number end ws ≡ Err c.in_err-values.field-0.0 =
+    ap (λ l. read_by number (length l) ws) (sym c.loop-i.invariant.2) ∙ (sym c.number.ensures.answer ∙ c.in_err-values.was) in
     rw (p.1, p.2) record {
       answer = sym (c.loop-i.invariant.0 ∙ read_stops (take c.loop-i.i c.loop-i.values) g.row.N c.loop-i.i end ws _ c.loop-i-test.true stop);
       words = tt;
@@ -28,11 +28,11 @@ returns-in-err-values g c =
 pub loop-i-preserved : goal.loop-i-preserved
 loop-i-preserved g c =
     let i : ℕ = c.loop-i.i in
-    let n : ℕ = c.in-ok-values.field-0 in
+    let n : ℕ = c.in_ok-values.field-0 in
     let end : ℕ = length c.args.self.now.line.now in
     let ws : List WordAt = left c.loop-i.self in
     let goes : read_by number end ws ≡ Ok n =
-    ap (λ l. read_by number (length l) ws) (sym c.loop-i.invariant.2) ∙ (sym c.number.ensures.answer ∙ c.in-ok-values.was) in
+    ap (λ l. read_by number (length l) ws) (sym c.loop-i.invariant.2) ∙ (sym c.number.ensures.answer ∙ c.in_ok-values.was) in
     let within : i < length c.loop-i.values = omega (arith, c.loop-i.invariant.3, c.loop-i-test.true) in (
       c.loop-i.invariant.0 ∙ (read_goes_on (take i c.loop-i.values) g.row.N i end ws n c.loop-i-test.true goes
           ∙ rw (take_more_set c.loop-i.values i n within, c.number.ensures.words)),

@@ -6,4 +6,4 @@ pub returns : goal.returns
 returns g c =
     let grid = c.args.self.now in
     told_free (ask grid.net c.args.reach grid.class.space c.args.layer c.args.area.now)
-    (g.P.Pieces.pieces grid.register.now) c.in-the-way.result c.is-none.result c.in-the-way.ensures c.is-none.ensures
+    (g.P.Pieces.pieces grid.register.now) c.in_the_way.result c.is_none.result c.in_the_way.ensures c.is_none.ensures

@@ -9,11 +9,11 @@ small c =
     (record { column = c.if-c-self.true; row = c.if-c-self-2.true; level = c.if-c-self-3.true }) in
     omega (arith, o, total_few c.args.self.now)
 
-pub overflow-mul-result-then-c-self-3 : goal.overflow-mul-result-then-c-self-3
-overflow-mul-result-then-c-self-3 c = omega (arith, small c)
+pub overflow_mul-result-then-c-self-3 : goal.overflow_mul-result-then-c-self-3
+overflow_mul-result-then-c-self-3 c = omega (arith, small c)
 
-pub overflow-add-result-then-c-self-3 : goal.overflow-add-result-then-c-self-3
-overflow-add-result-then-c-self-3 c = omega (arith, small c)
+pub overflow_add-result-then-c-self-3 : goal.overflow_add-result-then-c-self-3
+overflow_add-result-then-c-self-3 c = omega (arith, small c)
 
 pub returns-then-c-self-3 : goal.returns-then-c-self-3
 returns-then-c-self-3 c =
