@@ -1,5 +1,5 @@
 -- Places are few, and each is the place of a point on the panel. Assumes nothing.
-use Rattle.std.proofs.Common.{◌≡◌, ℕ, ◌+◌, ◌-◌, ◌*◌, ◌/◌, ◌%◌, ◌<◌, ◌≤◌, Bool, true, ◌&&◌, T, leb, [], subst, div-lt_iff_lt-mul, mul-le-mul, arith, leb→le}
+use Rattle.std.proofs.Common.{◌≡◌, ℕ, ◌+◌, ◌-◌, ◌*◌, ◌/◌, ◌<◌, ◌≤◌, true, ◌&&◌, T, leb, [], subst, div-lt_iff_lt-mul, mul-le-mul, arith, leb→le}
 use lib.Arith.{digits_lt}
 use Rattle.geometry.specs.declared.point.Point.{Point}
 use Rattle.geometry.specs.Ranges.{ranges}
