@@ -1,5 +1,5 @@
 -- How a search begins, and what it has found when it ends. Assumes nothing.
-use Rattle.std.proofs.Common.{◌≡◌, ℕ, ◌<◌, ◌⊎◌, [], sym, ap, ◌∙◌, subst, subst₂, inl, ⊎_elim, arith}
+use Rattle.std.proofs.Common.{◌≡◌, ℕ, ◌<◌, [], sym, ap, ◌∙◌, subst, subst₂, inl, ⊎_elim, arith}
 use native.Mathlib.Decide.{ℕ_discrete}
 use Rattle.costs.specs.Amounts.{Laws}
 use Rattle.frontier.specs.Routes.{Search, LeastCost, HasNoRoute}

@@ -1,5 +1,5 @@
 -- One look at a neighbour, over the notes and the entries. Assumes nothing.
-use Rattle.std.proofs.Common.{◌≡◌, ℕ, ◌+◌, ◌-◌, ◌*◌, ◌^◌, ◌<◌, ◌≤◌, true, false, T, ◌⊎◌, List, ◌∷◌, length, set, Some, None, sym, refl, ap, ◌∙◌, subst, subst₂, inl, inr, mul-le-mul_left, arith, length-set}
+use Rattle.std.proofs.Common.{◌≡◌, ℕ, ◌+◌, ◌*◌, ◌^◌, ◌<◌, ◌≤◌, true, false, T, ◌⊎◌, List, ◌∷◌, length, set, Some, None, sym, refl, ap, ◌∙◌, subst, subst₂, inl, inr, mul-le-mul_left, arith, length-set}
 use native.Mathlib.Decide.{ℕ_discrete}
 use borrow.Author.Tests.{clash}
 use Rattle.std.specs.List.Sorted.{IsPermutation}

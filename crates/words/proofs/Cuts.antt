@@ -1,7 +1,7 @@
 -- Lines and words, cut off the front one by one.
 use Rattle.std.proofs.Common.{◌≡◌, ℕ, ◌+◌, ◌-◌, ◌<◌, ◌≤◌, min, Bool, true, false, cond, eqb, ltb, List, [], ◌∷◌, length, take, drop, sym, refl, ap, ◌∙◌, inl, inr, add-one, arith, length-drop}
 use Rattle.std.proofs.lemmas.Bool.{cases_lt, cond-true, cond-false, lt-ltb, le-ltb}
-use Rattle.std.proofs.lemmas.List.{drop-drop, drop_all, take_rest}
+use Rattle.std.proofs.lemmas.List.{drop-drop, drop_all}
 use Rattle.words.specs.Text.{onto, lines, before, WordAt, word_at, onto_word, words}
 
 -- Nothing is left behind the end.

@@ -1,5 +1,5 @@
 -- Numbers that are read one behind the other.
-use Rattle.std.proofs.Common.{◌≡◌, ℕ, suc, ◌+◌, ◌-◌, ◌<◌, ◌≤◌, List, [], ◌∷◌, ◌++◌, drop, Ok, Err, Result, sym, refl, ap, ◌∙◌, append_assoc, append-nil, arith}
+use Rattle.std.proofs.Common.{◌≡◌, ℕ, suc, ◌+◌, ◌-◌, ◌<◌, ◌≤◌, List, [], ◌∷◌, ◌++◌, drop, Ok, Err, Result, sym, refl, ap, append_assoc, append-nil, arith}
 use Rattle.words.specs.declared.reader.Unreadable.{Unreadable}
 use Rattle.words.specs.Text.{WordAt}
 use Rattle.words.specs.Numbers.{number}

@@ -1,4 +1,4 @@
-use Rattle.std.proofs.Common.{◌≡◌, ℕ, List, drop, sym, ap, ◌∙◌}
+use Rattle.std.proofs.Common.{ℕ, List, drop, sym, ap, ◌∙◌}
 use Rattle.words.specs.Reading.{read_end}
 use Rattle.words.proofs.Cuts.{words_cut}
 use Rattle.words.proofs.Lefts.{left_more}

@@ -1,7 +1,7 @@
 use Rattle.std.proofs.Common.{◌≡◌, ℕ, ◌+◌, ◌-◌, ◌<◌, ◌≤◌, false, List, [], length, take, drop, refl, ap, ◌∙◌, arith}
 use Rattle.std.proofs.lemmas.List.{take_rest, length-drop}
 use Rattle.words.specs.declared.reader.WordReader.{WordReader}
-use Rattle.words.specs.Text.{WordAt, word_at, words, before}
+use Rattle.words.specs.Text.{words, before}
 use Rattle.words.specs.Reading.{left}
 use Rattle.words.proofs.Cuts.{words_from_more, words_from_last}
 use Rattle.words.proofs.Lefts.{left_more, left_none}

@@ -3,7 +3,7 @@ use Rattle.std.proofs.lemmas.List.{take_more_set, drop-drop, take_all, length-re
 use Rattle.std.proofs.lemmas.Result.{err_from_is_err_and}
 use Rattle.words.specs.Text.{WordAt}
 use Rattle.words.specs.Numbers.{number}
-use Rattle.words.specs.Reading.{left, read_by, behind, read_numbers}
+use Rattle.words.specs.Reading.{left, read_by}
 use Rattle.words.proofs.Numbered.{behind_none, read_goes_on, read_stops, read_ends}
 use Rattle.words.proofs.reader.WordReader.numbers.Goals as goal
 
