@@ -14,7 +14,7 @@ use Rattle.geometry.specs.declared.point.Point.{Point}
 use Rattle.geometry.specs.Lists.{mem}
 use Rattle.routes.specs.Laid.{joint, laid_run, laid_via, laid_from}
 use Rattle.routes.specs.Lines.{between, none_between, neighbours, line_move}
-use Rattle.routes.specs.Routes.{Move, along_x, along_y, to_layer, after, every, cost, NoneCheaper}
+use Rattle.routes.specs.Routes.{Move, along_x, along_y, to_layer, after, every, NoneCheaper}
 use Rattle.routes.specs.Turns.{heading, straight_on, turns, points_of, stops}
 use Rattle.routes.proofs.Bools.{left, right, both}
 use Rattle.routes.proofs.Listed.{all_of_from, mem_in}

@@ -18,7 +18,7 @@ none = Place (record { layer = 0; x1 = 0; y1 = 0; x2 = 0; y2 = 0; net = 0; space
 
 pub loop-call-init : goal.loop-call-init
 loop-call-init g c =
-    let m = g.Amount.Amount in
+    let m = g.K.Amount.Amount in
     let S = setup_of g.R.Register.places m.sums m.means g.K.CostKind.prices c.open-panel.result in
     let a = c.args in
     let room = length a.path.now in
@@ -31,7 +31,7 @@ loop-call-init g c =
 
 pub loop-call-preserved : goal.loop-call-preserved
 loop-call-preserved g c =
-    let m = g.Amount.Amount in
+    let m = g.K.Amount.Amount in
     let S = setup_of g.R.Register.places m.sums m.means g.K.CostKind.prices in
     let opened = S c.open-panel.result in
     let a = c.args in
@@ -65,7 +65,7 @@ loop-call-preserved g c =
 
 pub returns : goal.returns
 returns g c =
-    let m = g.Amount.Amount in
+    let m = g.K.Amount.Amount in
     let a = c.args in
     let l = c.loop-call in
     let S = setup_of g.R.Register.places m.sums m.means g.K.CostKind.prices c.open-panel.result in

@@ -7,7 +7,7 @@ use Rattle.panel.proofs.run.run_calls.Given as goal
 -- The calls so far, with their answers, are a run, and what it tells stands.
 abbrev pub invariant-loop-call : goal.invariant-loop-call
 invariant-loop-call g l =
-    let m = g.Amount.Amount in
+    let m = g.K.Amount.Amount in
     let S = setup_of g.R.Register.places m.sums m.means g.K.CostKind.prices in
     let e = l.initial in
     SoFar m.means (S e.panel) (lent_lists (length e.coordinates) (length e.xs) (length e.ys) (length e.nodes) (length e.frontier)) (length e.path)

@@ -14,23 +14,19 @@ invariant_of-grid g c =
     let h = is_so _ a.0.is_proper in
     let l = c.in-Ok.lattice in
     let across = a.1.across in
-    let upright = a.1.upright in (
-      part_long _ c.draw_lattice.new.xs l.columns across,
-      (
-        part_long _ c.draw_lattice.new.ys l.rows upright,
-        (
-          part_near _ c.draw_lattice.new.xs l.columns across q.width (XOn q h ps) (narrow q h),
-          (part_near _ c.draw_lattice.new.ys l.rows upright q.height (YOn q h ps) (low q h), tt),
-        ),
-      ),
-    )
+    let upright = a.1.upright in record {
+      columns = part_long _ c.draw_lattice.new.xs l.columns across;
+      rows = part_long _ c.draw_lattice.new.ys l.rows upright;
+      near = part_near _ c.draw_lattice.new.xs l.columns across q.width (XOn q h ps) (narrow q h);
+      close = part_near _ c.draw_lattice.new.ys l.rows upright q.height (YOn q h ps) (low q h);
+    }
 
 pub returns : goal.returns
 returns g c =
     let q = c.args.request.now in
     let ps = g.P.Pieces.pieces c.args.register.now in
     let a = c.in-Ok.ensures.answer in
-    let amount = g.Amount.Amount in
+    let amount = g.K.Amount.Amount in
     let tf = tariff amount.sums amount.means (g.K.CostKind.prices c.args.kind) in
     let l = c.in-Ok.lattice in
     let X = c.draw_lattice.new.xs in

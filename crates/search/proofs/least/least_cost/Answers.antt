@@ -3,7 +3,7 @@ use Rattle.search.proofs.least.least_cost.Goals as goal
 
 pub returns-in-Found : goal.returns-in-Found
 returns-in-Found g c =
-    let amount = g.Amount.Amount in
+    let amount = g.K.Amount.Amount in
     let a = c.in-Found.ensures.answer in
     record {
       answer = (

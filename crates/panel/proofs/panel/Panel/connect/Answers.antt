@@ -20,7 +20,7 @@ use Rattle.panel.proofs.panel.Panel.connect.Goals as goal
 
 pub returns-in_err-request : goal.returns-in_err-request
 returns-in_err-request g c =
-    let a = g.Amount.Amount in
+    let a = g.K.Amount.Amount in
     let q = c.args.q.now in
     let S = setup_of g.R.Register.places a.sums a.means g.K.CostKind.prices c.args.self.now in
     let st = standing g.R.Pieces.pieces c.args.self.now in
@@ -42,7 +42,7 @@ returns-in_err-request g c =
 
 pub returns-in-NoPath : goal.returns-in-NoPath
 returns-in-NoPath g c =
-    let a = g.Amount.Amount in
+    let a = g.K.Amount.Amount in
     let q = c.args.q.now in
     let S = setup_of g.R.Register.places a.sums a.means g.K.CostKind.prices c.args.self.now in
     let st = standing g.R.Pieces.pieces c.args.self.now in
@@ -68,7 +68,7 @@ returns-in-NoPath g c =
 
 pub returns-in-Refused : goal.returns-in-Refused
 returns-in-Refused g c =
-    let a = g.Amount.Amount in
+    let a = g.K.Amount.Amount in
     let q = c.args.q.now in
     let S = setup_of g.R.Register.places a.sums a.means g.K.CostKind.prices c.args.self.now in
     let st = standing g.R.Pieces.pieces c.args.self.now in
@@ -96,7 +96,7 @@ returns-in-Refused g c =
 
 pub returns-then-path-track : goal.returns-then-path-track
 returns-then-path-track g c =
-    let a = g.Amount.Amount in
+    let a = g.K.Amount.Amount in
     let q = c.args.q.now in
     let S = setup_of g.R.Register.places a.sums a.means g.K.CostKind.prices c.args.self.now in
     let st = standing g.R.Pieces.pieces c.args.self.now in
@@ -125,7 +125,7 @@ returns-then-path-track g c =
 
 pub returns-then-free-track : goal.returns-then-free-track
 returns-then-free-track g c =
-    let a = g.Amount.Amount in
+    let a = g.K.Amount.Amount in
     let q = c.args.q.now in
     let S = setup_of g.R.Register.places a.sums a.means g.K.CostKind.prices c.args.self.now in
     let st = standing g.R.Pieces.pieces c.args.self.now in
@@ -156,7 +156,7 @@ returns-then-free-track g c =
 
 pub returns-then-self : goal.returns-then-self
 returns-then-self g c =
-    let a = g.Amount.Amount in
+    let a = g.K.Amount.Amount in
     let q = c.args.q.now in
     let S = setup_of g.R.Register.places a.sums a.means g.K.CostKind.prices c.args.self.now in
     let st = standing g.R.Pieces.pieces c.args.self.now in
@@ -187,7 +187,7 @@ returns-then-self g c =
 
 pub lay_along-requires : goal.lay_along-requires
 lay_along-requires g c =
-    let a = g.Amount.Amount in
+    let a = g.K.Amount.Amount in
     let q = c.args.q.now in
     let S = setup_of g.R.Register.places a.sums a.means g.K.CostKind.prices c.args.self.now in
     let st = standing g.R.Pieces.pieces c.args.self.now in
@@ -222,7 +222,7 @@ lay_along-requires g c =
 
 pub returns : goal.returns
 returns g c =
-    let a = g.Amount.Amount in
+    let a = g.K.Amount.Amount in
     let q = c.args.q.now in
     let S = setup_of g.R.Register.places a.sums a.means g.K.CostKind.prices c.args.self.now in
     let st = standing g.R.Pieces.pieces c.args.self.now in

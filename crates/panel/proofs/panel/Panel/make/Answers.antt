@@ -64,7 +64,7 @@ pub returns-in-Ok-quote : goal.returns-in-Ok-quote
 returns-in-Ok-quote g c = record {
   made = record {
     event = quoting (lent_lists (length c.args.coordinates.now) (length c.args.xs.now) (length c.args.ys.now) (length c.args.nodes.now) (length c.args.frontier.now))
-        c.in-Quote.q (Ok (g.Amount.Amount.means c.in-Ok-quote.cost));
+        c.in-Quote.q (Ok (g.K.Amount.Amount.means c.in-Ok-quote.cost));
     of_call = sym c.in-Quote.is;
     of_answer = refl;
     of_points = refl;
@@ -94,7 +94,7 @@ pub returns-in-Ok-connect : goal.returns-in-Ok-connect
 returns-in-Ok-connect g c = record {
   made = record {
     event = connecting (lent_lists (length c.args.coordinates.now) (length c.args.xs.now) (length c.args.ys.now) (length c.args.nodes.now) (length c.args.frontier.now))
-        (length c.args.path.now) c.in-Connect.q (Ok (joined g.Amount.Amount.means c.connect.new.path c.in-Ok-connect.connection));
+        (length c.args.path.now) c.in-Connect.q (Ok (joined g.K.Amount.Amount.means c.connect.new.path c.in-Ok-connect.connection));
     of_call = sym c.in-Connect.is;
     of_answer = refl;
     of_points = refl;

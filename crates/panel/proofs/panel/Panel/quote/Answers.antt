@@ -11,7 +11,7 @@ use Rattle.panel.proofs.panel.Panel.quote.Goals as goal
 
 pub returns-in_err-request : goal.returns-in_err-request
 returns-in_err-request g c =
-    let a = g.Amount.Amount in
+    let a = g.K.Amount.Amount in
     let q = c.args.q.now in
     let S = setup_of g.R.Register.places a.sums a.means g.K.CostKind.prices c.args.self.now in
     let st = standing g.R.Pieces.pieces c.args.self.now in
@@ -23,7 +23,7 @@ returns-in_err-request g c =
 
 pub returns-in-Found : goal.returns-in-Found
 returns-in-Found g c =
-    let a = g.Amount.Amount in
+    let a = g.K.Amount.Amount in
     let q = c.args.q.now in
     let S = setup_of g.R.Register.places a.sums a.means g.K.CostKind.prices c.args.self.now in
     let st = standing g.R.Pieces.pieces c.args.self.now in
@@ -39,7 +39,7 @@ returns-in-Found g c =
 
 pub returns-in-NoPath : goal.returns-in-NoPath
 returns-in-NoPath g c =
-    let a = g.Amount.Amount in
+    let a = g.K.Amount.Amount in
     let q = c.args.q.now in
     let S = setup_of g.R.Register.places a.sums a.means g.K.CostKind.prices c.args.self.now in
     let st = standing g.R.Pieces.pieces c.args.self.now in
@@ -52,7 +52,7 @@ returns-in-NoPath g c =
 
 pub returns-in-Refused : goal.returns-in-Refused
 returns-in-Refused g c =
-    let a = g.Amount.Amount in
+    let a = g.K.Amount.Amount in
     let q = c.args.q.now in
     let S = setup_of g.R.Register.places a.sums a.means g.K.CostKind.prices c.args.self.now in
     let st = standing g.R.Pieces.pieces c.args.self.now in

@@ -17,10 +17,10 @@ loop-i-preserved g c =
     elim c.if-is_corner.branch [
       | then-is_corner w ↦
           let more = ap length (rest_corner ps i h (sym c.is_corner.ensures ∙ w.if-is_corner.true)) in
-          (omega (arith, inv.0, more, w.count_is), omega (arith, inv.1, w.count_is))
+          (omega (arith, inv.0, more, w.count-is), omega (arith, inv.1, w.count-is))
       | else-is_corner w ↦
           let more = ap length (rest_straight ps i h (sym c.is_corner.ensures ∙ w.if-is_corner.false)) in
-          (omega (arith, inv.0, more, w.count_is), omega (arith, inv.1, w.count_is))
+          (omega (arith, inv.0, more, w.count-is), omega (arith, inv.1, w.count-is))
     ]
 
 pub returns : goal.returns

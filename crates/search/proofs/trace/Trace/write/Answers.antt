@@ -31,17 +31,17 @@ loop-i-preserved g c =
           let fits : count < length path = omega (arith, more, inv.1, c.loop-i.auto.path) in
           let now = rest_from ps (i + 1) in (
             ap (λ l. filled l c.if-is_corner.count now) (w.path-is ∙ ap (set path count) w.point.ensures)
-                ∙ (ap (λ n. filled (set path count (point_at ps i)) n now) w.count_is
+                ∙ (ap (λ n. filled (set path count (point_at ps i)) n now) w.count-is
                 ∙ (fill_more path count (point_at ps i) now fits ∙ (ap (filled path count) (sym is) ∙ inv.0))),
-            omega (arith, more, inv.1, w.count_is),
+            omega (arith, more, inv.1, w.count-is),
           )
       | else-is_corner w ↦
           let is = rest_straight ps i h (sym c.is_corner.ensures ∙ w.if-is_corner.false) in
           let more = ap length is in
           let now = rest_from ps (i + 1) in (
             ap (λ l. filled l c.if-is_corner.count now) w.path-is
-                ∙ (ap (λ n. filled path n now) w.count_is ∙ (ap (filled path count) (sym is) ∙ inv.0)),
-            omega (arith, more, inv.1, w.count_is),
+                ∙ (ap (λ n. filled path n now) w.count-is ∙ (ap (filled path count) (sym is) ∙ inv.0)),
+            omega (arith, more, inv.1, w.count-is),
           )
     ]
 
