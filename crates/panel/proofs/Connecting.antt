@@ -1,5 +1,5 @@
 -- A connection that is answered rightly keeps the pieces in order, and what is promised of it. Assumes nothing.
-use Rattle.std.proofs.Common.{◌≡◌, ℕ, ◌+◌, ◌≤◌, Bool, not, T, ltb, leb, List, [], ◌∷◌, ◌++◌, Ok, Err, Result, sym, ap, ◌∙◌, subst, inl, inr, arith, lt→ltb, leb→le}
+use Rattle.std.proofs.Common.{◌≡◌, ℕ, ◌+◌, ◌≤◌, not, T, ltb, leb, List, [], ◌∷◌, ◌++◌, Ok, Err, Result, sym, ap, ◌∙◌, subst, inl, inr, arith, lt→ltb, leb→le}
 use Rattle.costs.specs.Amounts.{Laws}
 use Rattle.geometry.specs.Clearance.{in_order}
 use Rattle.geometry.specs.Ranges.{ranges}
@@ -14,10 +14,10 @@ use Rattle.panel.specs.declared.calls.Request.{Request}
 use Rattle.panel.specs.declared.refusal.Refusal.{Refusal}
 use Rattle.panel.specs.Standing.{Standing}
 use Rattle.panel.specs.Setups.{Setup, Lent}
-use Rattle.panel.specs.Checks.{Check, check, check_with, FirstCause, NoCause}
+use Rattle.panel.specs.Checks.{Check, check, check_with, FirstCause}
 use Rattle.panel.specs.Requests.{class_of, asked, rules, no_path_check, before_no_path, quote_checks}
-use Rattle.panel.specs.Connects.{pieces_of, path_checks, Joined, ConnectAnswer, after_connect}
-use Rattle.panel.specs.Runs.{NoPathRight, LeastAlong, ConnectedRight, Kept, connecting}
+use Rattle.panel.specs.Connects.{path_checks, Joined, ConnectAnswer, after_connect}
+use Rattle.panel.specs.Runs.{NoPathRight, ConnectedRight, Kept, connecting}
 use Rattle.panel.proofs.Facts.{left, stable}
 use Rattle.panel.proofs.Causes.{none_left, none_right, first_right, number_of_no_path, refused_number}
 

@@ -1,5 +1,5 @@
 -- What a search tells is what a quote answers, and that keeps what is promised of it. Assumes nothing.
-use Rattle.std.proofs.Common.{◌≡◌, ℕ, Bool, true, false, not, ◌&&◌, ◌||◌, T, ltb, leb, List, [], ◌∷◌, ◌++◌, Ok, Err, Result, sym, refl, ap, subst, inl, inr, arith, le→leb, lt→ltb}
+use Rattle.std.proofs.Common.{◌≡◌, ℕ, Bool, true, false, ◌&&◌, ◌||◌, T, ltb, leb, List, [], ◌∷◌, Ok, Err, Result, sym, refl, ap, subst, inl, inr, arith, le→leb, lt→ltb}
 use Rattle.std.proofs.lemmas.Bool.{cases_lt}
 use Rattle.geometry.specs.Ranges.{ranges}
 use Rattle.geometry.specs.declared.point.Point.{Point}
@@ -15,7 +15,6 @@ use Rattle.panel.specs.declared.sheet.Sheet.{Sheet}
 use Rattle.panel.specs.declared.calls.Request.{Request}
 use Rattle.panel.specs.declared.refusal.Refusal.{Refusal}
 use Rattle.panel.specs.declared.refusal.Refusal.TheVariants.{NoPath}
-use Rattle.panel.specs.Refusals.{shown_of_call}
 use Rattle.panel.specs.Sizes.{panel_size}
 use Rattle.panel.specs.Standing.{Standing}
 use Rattle.panel.specs.Setups.{Setup, Lent}

@@ -1,5 +1,5 @@
 -- What the track of a search comes to in a connect. Assumes nothing.
-use Rattle.std.proofs.Common.{◌≡◌, ℕ, ◌+◌, ◌-◌, ◌<◌, ◌≤◌, Bool, true, false, cond, ◌&&◌, T, eqb, ltb, leb, List, [], ◌∷◌, ◌++◌, length, take, drop, Ok, Err, sym, refl, ap, ◌∙◌, subst, inl, inr, arith, eqb→eq, ltb→lt, lt→ltb, leb→le}
+use Rattle.std.proofs.Common.{◌≡◌, ℕ, ◌+◌, ◌-◌, ◌<◌, ◌≤◌, Bool, true, false, cond, ◌&&◌, T, eqb, ltb, leb, List, [], ◌∷◌, length, take, drop, Ok, Err, sym, refl, ap, ◌∙◌, subst, inl, inr, arith, eqb→eq, ltb→lt, lt→ltb, leb→le}
 use Rattle.std.specs.List.{AllByRecursion}
 use Rattle.std.proofs.lemmas.List.{take_at}
 use Rattle.std.proofs.lemmas.Bool.{eq-eqb, le-leb}
@@ -18,15 +18,13 @@ use Rattle.search.specs.Requests.{request_X, request_Y}
 use Rattle.search.specs.Tracks.{track_points, in_front, TrackOf}
 use Rattle.panel.specs.declared.sheet.Sheet.{Sheet}
 use Rattle.panel.specs.declared.calls.Request.{Request}
-use Rattle.panel.specs.declared.calls.Connection.{Connection}
 use Rattle.panel.specs.declared.refusal.Refusal.{Refusal}
 use Rattle.panel.specs.declared.refusal.Refusal.TheVariants.{ShortPath, TooFewPlaces, JobsUsedUp}
-use Rattle.panel.specs.Sizes.{panel_size}
 use Rattle.panel.specs.Standing.{Standing}
 use Rattle.panel.specs.Setups.{Setup, Lent}
-use Rattle.panel.specs.Checks.{Check, FirstCause, NoCause, RefusedBy}
+use Rattle.panel.specs.Checks.{NoCause, RefusedBy}
 use Rattle.panel.specs.Requests.{class_of, asked, rules, quote_checks}
-use Rattle.panel.specs.Connects.{pieces_of, path_checks, Joined, ConnectAnswer, joined}
+use Rattle.panel.specs.Connects.{pieces_of, path_checks, ConnectAnswer, joined}
 use Rattle.panel.proofs.Facts.{left, right}
 use Rattle.panel.proofs.Causes.{none_both, first_left, first_behind, first_none}
 

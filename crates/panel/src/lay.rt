@@ -49,9 +49,9 @@ fn laid_piece(request: &Request, job: u16, layer: u8, rect: Rect) -> Piece
 // Adds what joins two points that follow one another: one piece for a run, two for a via, the lower layer first.
 fn lay_joint<R: Register>(register: &mut R, request: &Request, job: u16, p: &Point, q: &Point)
     requires reach { InReach p.now × InReach q.now }
-    requires room { length (R.Pieces.pieces register.old) + length (joint request.now.class request.now.net job p.now q.now) ≤ places register.old }
+    requires room { length (R.Pieces.pieces register.old) + length (joint request.now.class request.now.net job p.now q.now) ≤ R.Register.places register.old }
     ensures stands { R.Pieces.pieces register.new ≡ R.Pieces.pieces register.old ++ joint request.now.class request.now.net job p.now q.now }
-    ensures places { places register.new ≡ places register.old }
+    ensures places { R.Register.places register.new ≡ R.Register.places register.old }
 {
     if p.layer == q.layer {
         let run = moved_out(request.class.half, p, q);
@@ -71,9 +71,9 @@ pub(crate) fn lay_along<R: Register>(
     points: &[Point],
 )
     requires reach { AllByRecursion InReach points.now }
-    requires room { length (R.Pieces.pieces register.old) + length (laid_along request.now.class request.now.net job points.now) ≤ places register.old }
+    requires room { length (R.Pieces.pieces register.old) + length (laid_along request.now.class request.now.net job points.now) ≤ R.Register.places register.old }
     ensures stands { R.Pieces.pieces register.new ≡ R.Pieces.pieces register.old ++ laid_along request.now.class request.now.net job points.now }
-    ensures places { places register.new ≡ places register.old }
+    ensures places { R.Register.places register.new ≡ R.Register.places register.old }
 {
     for i in 1..points.len() {
         lay_joint(register, request, job, &points[i - 1], &points[i]);

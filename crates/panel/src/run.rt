@@ -55,7 +55,7 @@ impl<K: CostKind, R: Register> Panel<K, R> {
 /// However a panel is used from its opening on, different nets keep their clearance, an answered cost is that of a lawful path
 /// and no lawful path is cheaper, and "no path" is answered exactly if there is none: for every kind of cost and every register.
 pub fn promise_over_runs<K: CostKind, R: Register>() -> u8
-    ensures { (kind : K) (register : R) → RunsKeepThePromise (R.Register.places register) (tariff Amount-as-Amount.sums Amount-as-Amount.means (K.CostKind.prices kind)) }
+    ensures { (kind : K) (register : R) → RunsKeepThePromise (R.Register.places register) (tariff K.Amount.Amount.sums K.Amount.Amount.means (K.CostKind.prices kind)) }
 {
     0
 }

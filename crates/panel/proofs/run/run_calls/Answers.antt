@@ -4,8 +4,7 @@ use Rattle.std.proofs.lemmas.Result.{err_from_is_err_and}
 use Rattle.costs.specs.Amounts.{tariff}
 use Rattle.panel.specs.declared.calls.Call.{Call}
 use Rattle.panel.specs.declared.calls.Call.TheVariants.{Place}
-use Rattle.panel.specs.declared.calls.Answer.{Answer}
-use Rattle.panel.specs.Setups.{Setup, setup, Lent, lent_lists}
+use Rattle.panel.specs.Setups.{setup, lent_lists}
 use Rattle.panel.specs.Standing.{Standing, nothing_stands}
 use Rattle.panel.specs.Panels.{standing, setup_of}
 use Rattle.panel.specs.Runs.{handed, Made, Driven}

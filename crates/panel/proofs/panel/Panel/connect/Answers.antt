@@ -1,4 +1,4 @@
-use Rattle.std.proofs.Common.{◌≡◌, ℕ, ◌+◌, ◌-◌, ◌<◌, ◌≤◌, T, List, ◌++◌, length, take, drop, Ok, Err, sym, refl, ap, ◌∙◌, subst, arith, rules}
+use Rattle.std.proofs.Common.{◌≡◌, ◌+◌, ◌-◌, ◌<◌, ◌≤◌, T, ◌++◌, length, take, Ok, Err, sym, refl, ap, ◌∙◌, subst, arith}
 use Rattle.std.proofs.lemmas.Result.{err_from_is_err_and}
 use Rattle.std.specs.List.{AllByRecursion}
 use Rattle.geometry.specs.Clearance.{in_order}
@@ -8,7 +8,7 @@ use Rattle.search.specs.Told.{ToldTrack}
 use Rattle.search.specs.Tracks.{in_front, TrackOf}
 use Rattle.search.specs.declared.outcome.Outcome.TheVariants as search
 use Rattle.panel.specs.declared.refusal.Refusal.TheVariants.{NoPath, ShortPath, TooFewPlaces, JobsUsedUp}
-use Rattle.panel.specs.Setups.{Setup, lent_lists}
+use Rattle.panel.specs.Setups.{lent_lists}
 use Rattle.panel.specs.Panels.{standing, setup_of}
 use Rattle.panel.specs.Quotes.{before_work}
 use Rattle.panel.specs.Connects.{pieces_of, ConnectAnswer}

@@ -1,9 +1,9 @@
-use Rattle.std.proofs.Common.{◌≡◌, ℕ, T, List, length, Ok, Err, sym, refl, subst}
+use Rattle.std.proofs.Common.{T, length, Ok, Err, sym, refl, subst}
 use Rattle.std.proofs.lemmas.Result.{err_from_is_err_and}
 use Rattle.search.specs.Told.{ToldCost}
 use Rattle.search.specs.declared.outcome.Outcome.TheVariants as search
 use Rattle.panel.specs.declared.refusal.Refusal.TheVariants.{NoPath}
-use Rattle.panel.specs.Setups.{Setup, lent_lists}
+use Rattle.panel.specs.Setups.{lent_lists}
 use Rattle.panel.specs.Panels.{standing, setup_of}
 use Rattle.panel.specs.Quotes.{LeastCost, QuoteAnswer, before_work}
 use Rattle.panel.proofs.Quoting.{quote_kept, told_found, told_none, told_refused, refused_request, before_is_early}
