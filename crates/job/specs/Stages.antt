@@ -17,7 +17,7 @@ use Rattle.job.specs.declared.forms.Verb.TheVariants as verbs
 use Rattle.job.specs.declared.setup.Stage.{Stage}
 use Rattle.job.specs.declared.setup.Stage.TheVariants as stages
 use Rattle.job.specs.declared.refused.Refused.{Refused}
-use Rattle.job.specs.declared.refused.Refused.TheVariants.{ByJob, BySheet, ByPanel}
+use Rattle.job.specs.declared.refused.Refused.TheVariants.{ByJob, BySheet}
 use Rattle.words.specs.Text.{WordAt, words}
 use Rattle.words.specs.Reading.{unreadable, read_end}
 use Rattle.job.specs.Forms.{verb, at_end, panel_line, layer_line, class_line, place_line, lift_line, request_line}

@@ -1,8 +1,8 @@
 -- What a job is answered with. Assumes nothing.
 --     job_places                how many pieces may stand
 --     job_lists, job_points     the lengths of the lists that are lent to each call
---     ToldBy                   a text tells the answers of a run
---     ToldIn                   the same, in the kind of cost that a job has chosen
+--     ToldBy                    a text tells the answers of a run
+--     ToldIn                    the same, in the kind of cost that a job has chosen
 --     Transcript                a text tells what a job is answered with
 use Rattle.std.specs.Prelude.{◌≡◌, ℕ, List, length, MatchBool, nat_lt}
 use Rattle.geometry.specs.declared.point.Point.{Point}

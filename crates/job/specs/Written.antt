@@ -1,7 +1,7 @@
 -- How the answers of a job are written. Assumes nothing.
 --     reply_text amount n reply left points   what the line of the number n is answered with, where amounts are written by `amount`,
---                                            and these are the answers of the calls from here on and the points of their connections
---     answers_left, points_after             the answers and the points behind it
+--                                             and these are the answers of the calls from here on and the points of their connections
+--     answers_left, points_after              the answers and the points behind it
 --     text_of amount said answers points      what all lines are answered with, line for line
 use Rattle.std.specs.Prelude.{ℕ, List, [], ◌∷◌, ◌++◌, drop, codes}
 use Rattle.geometry.specs.declared.point.Point.{Point}

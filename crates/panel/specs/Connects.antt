@@ -2,7 +2,7 @@
 --     pieces_of s st q points  the pieces that are laid along the points of a path, with the next job number
 --     path_checks              the checks of the path that is taken
 --     Joined                   a connection that was laid, with the points that it hands back
---     ConnectAnswer           what is laid along a least-cost path, or a refusal by the first check that finds its cause
+--     ConnectAnswer            what is laid along a least-cost path, or a refusal by the first check that finds its cause
 --     after_connect            what stands after it, told by the call and its answer alone
 --     path_after               the path list after it
 --     connected means path r   an answer of the code, by its meaning

@@ -1,7 +1,7 @@
 -- What a quote answers. Assumes nothing.
---     QuoteAnswer             the least cost of a lawful path, or a refusal by the first check that finds its cause
+--     QuoteAnswer              the least cost of a lawful path, or a refusal by the first check that finds its cause
 --     quoted means r           an answer of the code, by its meaning
---     BeforeWork r same       a refusal before the lists are used leaves them as they were
+--     BeforeWork r same        a refusal before the lists are used leaves them as they were
 use Rattle.std.specs.Prelude.{Bool, T, [], ◌∷◌, Ok, Err, Result}
 use Rattle.geometry.specs.Lists.{mem}
 use Rattle.search.specs.declared.request.Refusal.{Refusal as SearchRefusal}

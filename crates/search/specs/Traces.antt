@@ -2,9 +2,9 @@
 --     trace_points r       the points of a trace
 --     is_corner ps i       the i-th point is the first, the last or one where the way turns or changes its layer
 --     pieces_at ps i       how many pieces end at the i-th point
---     LeadsWithin         the notes lead back from one node to another, by fewer nodes than a number
+--     LeadsWithin          the notes lead back from one node to another, by fewer nodes than a number
 --     Tracked              a track goes by way of these nodes
---     GridTrack           a track on a grid is that of a least-cost path
+--     GridTrack            a track on a grid is that of a least-cost path
 use Rattle.std.specs.Prelude.{◌≡◌, ℕ, ◌+◌, ◌-◌, ◌<◌, Bool, cond, not, ◌||◌, List, map, length, drop, ◌==◌, slice_index_or}
 use Rattle.costs.specs.Amounts.{Tariff}
 use Rattle.frontier.specs.declared.entry.Entry.{Entry}

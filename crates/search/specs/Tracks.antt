@@ -8,7 +8,7 @@
 --     pieces_from p qs         how many pieces a path takes from p on: one for a run, two for a via
 --     track_points t X Y es    the points of a track
 --     in_front ps old          the points stand first in a list that was another
---     TrackOf                 a track is that of a least-cost path between the terminals of a request
+--     TrackOf                  a track is that of a least-cost path between the terminals of a request
 use Rattle.std.specs.Prelude.{◌≡◌, ℕ, ◌+◌, Bool, false, cond, ◌&&◌, List, [], ◌∷◌, ◌++◌, map, length, take, drop, ◌==◌, nat_lt}
 use Rattle.costs.specs.Amounts.{Tariff}
 use Rattle.frontier.specs.declared.entry.Entry.{Entry}

@@ -1,4 +1,4 @@
-use Rattle.std.proofs.Common.{◌≡◌, vec_items, ap, ◌∙◌}
+use Rattle.std.proofs.Common.{vec_items, ap, ◌∙◌}
 use Rattle.std.proofs.lemmas.Result.{IfOk-weaker}
 use Rattle.job.specs.Written.{text_of}
 use Rattle.job.proofs.run.answer_by.Goals as goal

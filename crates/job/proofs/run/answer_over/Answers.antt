@@ -1,4 +1,4 @@
-use Rattle.std.proofs.Common.{◌≡◌, IfOk, string_bytes, sym, subst}
+use Rattle.std.proofs.Common.{IfOk, string_bytes, sym, subst}
 use Rattle.job.specs.declared.forms.CostChoice.{CostChoice}
 use Rattle.job.specs.Transcripts.{ToldIn}
 use Rattle.job.proofs.run.answer_over.Goals as goal

@@ -1,6 +1,5 @@
 use Rattle.std.proofs.Common.{◌≡◌, ℕ, ◌+◌, List, [], ◌∷◌, ◌++◌, length, drop, vec_items, sym, refl, ap, ◌∙◌, subst, append-nil, arith}
 use Rattle.job.specs.declared.setup.Setup.{Setup}
-use Rattle.job.specs.declared.setup.Stage.TheVariants.{Start}
 use Rattle.words.specs.Text.{lines}
 use Rattle.job.specs.Said.{replied, said, calls_in, LineTold, Told}
 use Rattle.job.proofs.Tellings.{line_told, calls_in-++, said_more, told_more}
