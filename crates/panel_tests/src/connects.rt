@@ -1,5 +1,4 @@
 // Connects and quotes with lists that just suffice, and with each list one too short.
-use costs::money::Amount;
 use costs::{ByMoney, Money, PriceList};
 use frontier::{Entry, Note};
 use geometry::{Mark, Piece, Point, Rect, Span};
