@@ -12,8 +12,9 @@ for c in geometry registers; do
 done
 mkdir -p "$build/crates/register_bench/src"
 cp "$here/register_bench.rt.txt" "$build/crates/register_bench/src/lib.rt"
-printf 'geometry:\nregisters: geometry\nregister_bench: geometry registers\n' >"$build/crates.txt"
+printf 'geometry:\nregisters: geometry\nregister_bench staticlib: geometry registers\n' >"$build/crates.txt"
+cd "$build/crates/register_bench"
+rt lib >"$build/lib.log" 2>&1 || { tail -30 "$build/lib.log"; exit 1; }
 cd "$build"
-rt staticlib register_bench >staticlib.log 2>&1 || { tail -30 staticlib.log; exit 1; }
-g++ -O2 -std=c++17 "$here/bench.cpp" target/staticlib/libregister_bench.a -o bench
+g++ -O2 -std=c++17 "$here/bench.cpp" crates/register_bench/out/libregister_bench.a -o bench
 ./bench
