@@ -22,10 +22,11 @@ queue:
 frontier: costs queue
 registers: geometry
 search: geometry registers costs routes queue frontier
-search_bench: geometry registers costs queue frontier search
+search_bench staticlib: geometry registers costs queue frontier search
 END
+cd "$build/crates/search_bench"
+rt lib >"$build/lib.log" 2>&1 || { tail -30 "$build/lib.log"; exit 1; }
 cd "$build"
-rt staticlib search_bench >staticlib.log 2>&1 || { tail -30 staticlib.log; exit 1; }
 kit=$(dirname "$(dirname "$(readlink -f "$(command -v rt)")")")
-g++ -O3 -std=c++17 "$here/bench.cpp" target/staticlib/libsearch_bench.a "$kit/lib/librattle_c.a" -o bench
+g++ -O3 -std=c++17 "$here/bench.cpp" crates/search_bench/out/libsearch_bench.a "$kit/c/liblibc_c.a" -o bench
 ./bench
