@@ -5,8 +5,9 @@ usage: python3 tools/respell_names.py [ROOT]
 
 Run it after port.py. A name with dashes is respelled as this Rattle spells names: one with a capital in front is a type or a fact and
 becomes upper camel case, any other becomes snake case. Names of goals, which Rattle makes, are left as they are, and so is whatever
-src/ declares. Names that would fall together with another stand in APART with what they become. In pages, a name is respelled only
-between backticks. It prints what falls together and what it did.
+src/ declares. Names that would fall together with another stand in APART with what they become. Comments of .rt and .antt files are
+respelled too. In pages, a name is respelled only between backticks, and pages inside crates/ are left. It prints what falls together
+and what it did.
 """
 
 import os
