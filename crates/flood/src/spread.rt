@@ -1,5 +1,8 @@
 // The flood: labels are bettered in sweeps over all points until nothing improves.
-ghost use Rattle.std.specs.Prelude.{◌≡◌, IfOk, vec_len};
+ghost use Rattle.std.specs.Prelude.{◌≡◌, false, [], IfOk, vec_len};
+ghost use Rattle.routes.specs.Routes.{inside};
+ghost use Rattle.flood.specs.declared.spread.Flooded.TheVariants.{Unreached};
+ghost use Rattle.flood.specs.Grounds.{ground_rules};
 
 use crate::ground::Ground;
 use crate::labels::{Strides, better_round};
@@ -66,7 +69,8 @@ fn settle<K: CostKind>(
     false
 }
 
-/// Floods the unit grid from the first terminal of a request, and answers for how much the second was reached.
+/// Floods the unit grid from the first terminal of a request, and answers for how much the second was reached. A terminal off the
+/// panel is not reached; that an amount is a least cost is tested, not proved.
 pub fn flood<K: CostKind>(
     heap: Global,
     kind: K,
@@ -74,7 +78,10 @@ pub fn flood<K: CostKind>(
     pieces: &[Piece],
     first: &Point,
     second: &Point,
-) -> Result<Flooded<K::Amount>, AllocError> {
+) -> Result<Flooded<K::Amount>, AllocError>
+    ensures first { inside (ground_rules ground.now []) first.now ≡ false → IfOk result (λ r. r ≡ Unreached) }
+    ensures second { inside (ground_rules ground.now []) second.now ≡ false → IfOk result (λ r. r ≡ Unreached) }
+{
     let Some(from) = ground.place(first) else {
         return Ok(Flooded::Unreached);
     };
