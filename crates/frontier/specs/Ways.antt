@@ -2,8 +2,10 @@
 --     before_of notes v        the node before v, if v is settled
 --     Leads notes from u back  following the notes from u leads by way of `back` to the start
 --     Way, Counted             how many nodes the way has
---     Wrote, Written           the nodes of the way stand first in a list
-use Rattle.std.specs.Prelude.{◌≡◌, ℕ, ◌+◌, ◌<◌, ◌≤◌, List, [], ◌∷◌, ◌++◌, reverse, length, drop, Some, None, Option, MatchOption, ◌≢◌, slice_index_or}
+--     nodes_of es              the nodes of some entries
+--     Wrote, Written           the first of some entries have the nodes of the way
+use Rattle.std.specs.Prelude.{◌≡◌, ℕ, ◌+◌, ◌<◌, ◌≤◌, List, [], ◌∷◌, map, reverse, length, take, drop, Some, None, Option, MatchOption, ◌≢◌, slice_index_or}
+use Rattle.frontier.specs.declared.entry.Entry.{Entry}
 use Rattle.frontier.specs.declared.note.Note.{Note}
 use Rattle.frontier.specs.declared.note.Note.TheVariants.{Unseen, Waiting, Settled}
 
@@ -30,13 +32,18 @@ pub record Way {C : Type 0} (notes : List (Note C)) (from to n : ℕ) : Type 0 w
 abbrev pub Counted : {C : Type 0} → List (Note C) → ℕ → ℕ → Option ℕ → Type 0
 Counted notes from to r = MatchOption r ((back : List ℕ) → Leads notes from to back → length notes ≤ length back) (Way notes from to)
 
--- the first n of ys are the nodes of the way from the start on, and the others are as those of xs
-pub record Wrote {C : Type 0} (notes : List (Note C)) (from to : ℕ) (xs ys : List ℕ) (n : ℕ) : Type 0 where
-  pub way : Way notes from to n
-  pub whole : ys ≡ reverse (to ∷ way.back) ++ drop n xs
+-- the nodes of some entries
+abbrev pub nodes_of : {C : Type 0} → List (Entry C) → List ℕ
+nodes_of es = map (λ e. e.node) es
 
--- absent only if no way has as few nodes as there are notes and places
-abbrev pub Written : {C : Type 0} → List (Note C) → ℕ → ℕ → List ℕ → List ℕ → Option ℕ → Type 0
-Written notes from to xs ys r = MatchOption r
-    ((back : List ℕ) → Leads notes from to back → length back < length notes → length xs ≤ length back)
-    (Wrote notes from to xs ys)
+-- the nodes of the first n of es' are those of the way from the start on, and the others are as those of es
+pub record Wrote {C : Type 0} (notes : List (Note C)) (from to : ℕ) (es es' : List (Entry C)) (n : ℕ) : Type 0 where
+  pub way : Way notes from to n
+  pub first : nodes_of (take n es') ≡ reverse (to ∷ way.back)
+  pub others : drop n es' ≡ drop n es
+
+-- absent only if no way has as few nodes as there are notes and entries
+abbrev pub Written : {C : Type 0} → List (Note C) → ℕ → ℕ → List (Entry C) → List (Entry C) → Option ℕ → Type 0
+Written notes from to es es' r = MatchOption r
+    ((back : List ℕ) → Leads notes from to back → length back < length notes → length es ≤ length back)
+    (Wrote notes from to es es')

@@ -1,7 +1,8 @@
 // The way that the notes of a search lead back.
 ghost use Rattle.std.specs.Prelude.{◌≡◌, ℕ, ◌+◌, List, ◌∷◌, reverse, length, None};
-ghost use Rattle.frontier.specs.Ways.{Leads, before_of, Counted, Written};
+ghost use Rattle.frontier.specs.Ways.{Leads, before_of, nodes_of, Counted, Written};
 
+use crate::entry::Entry;
 use crate::note::Note;
 
 /// The node before a settled node.
@@ -38,32 +39,37 @@ pub fn way_len<C: Copy>(notes: &[Note<C>], from: u32, to: u32) -> Option<usize>
     Some(count)
 }
 
-/// Writes the nodes that the notes lead back from a node, from the last place to the first.
-fn fill_back<C: Copy>(notes: &[Note<C>], to: u32, way: &mut [u32])
+/// Writes the nodes that the notes lead back from a node into the entries, from the last to the first.
+fn fill_back<C: Copy>(notes: &[Note<C>], to: u32, entries: &mut [Entry<C>])
     ensures { (from : ℕ) (back : List ℕ) → Leads notes.now from to back
-        → length way.old ≡ length back + 1 → way.new ≡ reverse (to ∷ back) }
+        → length entries.old ≡ length back + 1 → nodes_of entries.new ≡ reverse (to ∷ back) }
 {
     let mut node = to;
-    for i in (0..way.len()).rev() {
-        way[i] = node;
+    for i in (0..entries.len()).rev() {
+        entries[i].node = node;
         if let Some(previous) = before(notes, node) {
             node = previous;
         }
     }
 }
 
-/// Writes the nodes of the way, from the start to the target, to the front of a list, and answers how
+/// Writes the nodes of the way, from the start to the target, into the first of some entries, and answers how
 /// many they are; absent, with nothing written, if there is no way or it does not fit.
-pub fn write_way<C: Copy>(notes: &[Note<C>], from: u32, to: u32, way: &mut [u32]) -> Option<usize>
-    ensures written { Written notes.now from to way.old way.new result }
-    ensures unchanged { result ≡ None → way.new ≡ way.old }
+pub fn write_way<C: Copy>(
+    notes: &[Note<C>],
+    from: u32,
+    to: u32,
+    entries: &mut [Entry<C>],
+) -> Option<usize>
+    ensures written { Written notes.now from to entries.old entries.new result }
+    ensures unchanged { result ≡ None → entries.new ≡ entries.old }
 {
     let Some(count) = way_len(notes, from, to) else {
         return None;
     };
-    if way.len() < count {
+    if entries.len() < count {
         return None;
     }
-    fill_back(notes, to, &mut way[..count]);
+    fill_back(notes, to, &mut entries[..count]);
     Some(count)
 }

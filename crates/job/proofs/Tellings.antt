@@ -4,7 +4,7 @@ use Rattle.panel.specs.declared.calls.Call.{Call}
 use Rattle.job.specs.declared.refused.Refused.{Refused}
 use Rattle.job.specs.declared.said.Said.{Said}
 use Rattle.job.specs.declared.setup.Setup.{Setup}
-use Rattle.job.specs.Text.{words}
+use Rattle.words.specs.Text.{words}
 use Rattle.job.specs.Stages.{answer_of, led_on_by, led_on_if, stage_after}
 use Rattle.job.specs.Settings.{SetBy}
 use Rattle.job.specs.Said.{replied, said, call_in, calls_in, LineTold, Told}

@@ -5,7 +5,8 @@
 use Rattle.std.specs.Prelude.{ℕ, Bool, true, false, cond, List, drop, Some, None, Ok, Err, codes, Option, Result, slice_index}
 use Rattle.std.specs.Str.{bytes_eq}
 use Rattle.panel.specs.declared.calls.Placement.{Placement}
-use Rattle.job.specs.declared.reader.Unreadable.{Unreadable}
+use Rattle.panel.specs.declared.calls.Request.{Request}
+use Rattle.words.specs.declared.reader.Unreadable.{Unreadable}
 use Rattle.job.specs.declared.forms.Verb.{Verb}
 use Rattle.job.specs.declared.forms.Verb.TheVariants.{Panel, Layer, Class, Open, Place, Lift, Quote, Connect}
 use Rattle.job.specs.declared.forms.CostChoice.{CostChoice}
@@ -15,8 +16,8 @@ use Rattle.job.specs.declared.forms.RegisterChoice.TheVariants.{Plain, Strips}
 use Rattle.job.specs.declared.forms.PanelLine.{PanelLine}
 use Rattle.job.specs.declared.forms.LayerLine.{LayerLine}
 use Rattle.job.specs.declared.forms.ClassLine.{ClassLine}
-use Rattle.job.specs.Text.{WordAt}
-use Rattle.job.specs.Reading.{read_by, read_numbers, read_end, letter}
+use Rattle.words.specs.Text.{WordAt}
+use Rattle.words.specs.Reading.{read_by, read_numbers, read_end, letter}
 
 abbrev pub named : List ℕ → List ℕ → Verb → Option Verb → Option Verb
 named bs word v others = cond (bytes_eq bs word) (Some v) others
@@ -77,3 +78,12 @@ place_line end ws =
 
 abbrev pub lift_line : ℕ → List WordAt → Result ℕ Unreadable
 lift_line end ws = then_read (read_all 1 end ws) (λ ns. Ok (slice_index ns 0))
+
+abbrev pub request_line : ℕ → List WordAt → Result Request Unreadable
+request_line end ws =
+    then_read (read_all 8 end ws) (λ ns. Ok (record {
+      class = slice_index ns 0;
+      net = slice_index ns 1;
+      first = record { layer = slice_index ns 2; x = slice_index ns 3; y = slice_index ns 4 };
+      second = record { layer = slice_index ns 5; x = slice_index ns 6; y = slice_index ns 7 };
+    }))

@@ -1,12 +1,9 @@
 pub mod Cases
 pub mod Forms
-pub mod Numbers
-pub mod Reading
 pub mod Refused
 pub mod Said
 pub mod Scripts
 pub mod Settings
 pub mod Stages
-pub mod Text
 pub mod Transcripts
 pub mod Written

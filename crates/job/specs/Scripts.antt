@@ -7,7 +7,7 @@ use Rattle.job.specs.declared.forms.RegisterChoice.TheVariants.{Plain}
 use Rattle.job.specs.declared.setup.Setup.{Setup}
 use Rattle.job.specs.declared.setup.Stage.TheVariants.{Start}
 use Rattle.job.specs.declared.script.Script.{Script}
-use Rattle.job.specs.Text.{lines}
+use Rattle.words.specs.Text.{lines}
 use Rattle.job.specs.Said.{said, calls_in, Told}
 
 -- before the first line

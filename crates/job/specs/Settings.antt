@@ -7,10 +7,10 @@ use Rattle.job.specs.declared.forms.Verb.TheVariants as verbs
 use Rattle.job.specs.declared.forms.PanelLine.{PanelLine}
 use Rattle.job.specs.declared.forms.LayerLine.{LayerLine}
 use Rattle.job.specs.declared.forms.ClassLine.{ClassLine}
-use Rattle.job.specs.declared.reader.WordReader.{WordReader}
+use Rattle.words.specs.declared.reader.WordReader.{WordReader}
 use Rattle.job.specs.declared.setup.Setup.{Setup}
-use Rattle.job.specs.Text.{WordAt, words}
-use Rattle.job.specs.Reading.{left}
+use Rattle.words.specs.Text.{WordAt, words}
+use Rattle.words.specs.Reading.{left}
 use Rattle.job.specs.Forms.{verb, panel_line, layer_line, class_line}
 
 -- all but the stage

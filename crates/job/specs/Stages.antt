@@ -11,16 +11,16 @@ use Rattle.panel.specs.declared.calls.Call.{Call}
 use Rattle.panel.specs.declared.calls.Call.TheVariants as calls
 use Rattle.panel.specs.declared.refusal.SheetRefusal.{SheetRefusal}
 use Rattle.panel.specs.declared.refusal.SheetRefusal.TheVariants.{Prices}
-use Rattle.job.specs.declared.reader.Unreadable.{Unreadable}
+use Rattle.words.specs.declared.reader.Unreadable.{Unreadable}
 use Rattle.job.specs.declared.forms.Verb.{Verb}
 use Rattle.job.specs.declared.forms.Verb.TheVariants as verbs
 use Rattle.job.specs.declared.setup.Stage.{Stage}
 use Rattle.job.specs.declared.setup.Stage.TheVariants as stages
 use Rattle.job.specs.declared.refused.Refused.{Refused}
 use Rattle.job.specs.declared.refused.Refused.TheVariants.{ByJob, BySheet}
-use Rattle.job.specs.Text.{WordAt, words}
-use Rattle.job.specs.Reading.{unreadable, read_end}
-use Rattle.job.specs.Forms.{verb, at_end, panel_line, layer_line, class_line, place_line, lift_line}
+use Rattle.words.specs.Text.{WordAt, words}
+use Rattle.words.specs.Reading.{unreadable, read_end}
+use Rattle.job.specs.Forms.{verb, at_end, panel_line, layer_line, class_line, place_line, lift_line, request_line}
 
 abbrev pub rank : Stage → ℕ
 rank stages.Start = 0
@@ -70,8 +70,8 @@ line_says verbs.Class end ws = setting (class_line end ws) (λ l. class_answer l
 line_says verbs.Open end ws = setting (at_end (read_end ws) tt) (λ u. Ok u)
 line_says verbs.Place end ws = calling (place_line end ws) calls.Place
 line_says verbs.Lift end ws = calling (lift_line end ws) calls.Lift
-line_says verbs.Quote end ws = refused_at 0
-line_says verbs.Connect end ws = refused_at 0
+line_says verbs.Quote end ws = calling (request_line end ws) calls.Quote
+line_says verbs.Connect end ws = calling (request_line end ws) calls.Connect
 
 -- A line out of turn, and one with no such first word, does not fit from its beginning on.
 abbrev pub by_verb : Stage → Option Verb → ℕ → List WordAt → Result (Option Call) Refused

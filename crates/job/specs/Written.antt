@@ -1,51 +1,36 @@
 -- How the answers of a job are written. Assumes nothing.
-use Rattle.std.specs.Prelude.{ℕ, List, [], ◌∷◌, ◌++◌, drop, codes, decimal}
-use Rattle.panel.specs.declared.refusal.Level.{Level}
-use Rattle.panel.specs.declared.refusal.Level.TheVariants.{Job, Sheet, Panel}
-use Rattle.panel.specs.declared.refusal.Shown.{Shown}
+--     reply_text amount n reply left points   what the line of the number n is answered with, where amounts are written by `amount`,
+--                                             and these are the answers of the calls from here on and the points of their connections
+--     answers_left, points_after              the answers and the points behind it
+--     text_of amount said answers points      what all lines are answered with, line for line
+use Rattle.std.specs.Prelude.{ℕ, List, [], ◌∷◌, ◌++◌, drop, codes}
+use Rattle.geometry.specs.declared.point.Point.{Point}
 use Rattle.panel.specs.declared.calls.Answer.{Answer}
-use Rattle.panel.specs.declared.calls.Answer.TheVariants as answers
-use Rattle.panel.specs.Refusals.{shown_of_call}
+use Rattle.answers.specs.Written.{refusal_text, answer_text, points_left}
 use Rattle.job.specs.declared.said.Reply.{Reply}
 use Rattle.job.specs.declared.said.Reply.TheVariants as reply
 use Rattle.job.specs.declared.said.Said.{Said}
 use Rattle.job.specs.Refused.{shown}
 
-abbrev pub level_word : Level → List ℕ
-level_word Job = codes "job"
-level_word Sheet = codes "sheet"
-level_word Panel = codes "panel"
+abbrev pub reply_text : {C : Type 0} → (C → List ℕ) → ℕ → Reply → List (Answer C) → List Point → List ℕ
+reply_text amount line (reply.Refused e) left points = refusal_text line (shown e)
+reply_text amount line (reply.Call call) [] points = []
+reply_text amount line (reply.Call call) (a ∷ left) points = answer_text amount line a points
 
--- "no", the refusal's number, the number of the line, the level and the returned number
-abbrev pub refusal_text : ℕ → Shown → List ℕ
-refusal_text line s =
-    codes "no " ++ (decimal s.number ++ (codes " " ++ (decimal line ++ (codes " " ++ (level_word s.level ++ (codes " "
-    ++ (decimal s.returned ++ codes "\n")))))))
-
--- "ok" and one number
-abbrev pub number_text : ℕ → List ℕ
-number_text n = codes "ok " ++ (decimal n ++ codes "\n")
-
--- the line that answers a call
-abbrev pub answer_text : ℕ → Answer → List ℕ
-answer_text line (answers.Placed job) = number_text job
-answer_text line (answers.Lifted count) = number_text count
-answer_text line (answers.Refused e) = refusal_text line (shown_of_call e)
-
--- What one line is answered with, where these are the answers of the calls from here on; and the answers behind it.
-abbrev pub reply_text : ℕ → Reply → List Answer → List ℕ
-reply_text line (reply.Refused e) left = refusal_text line (shown e)
-reply_text line (reply.Call call) [] = []
-reply_text line (reply.Call call) (a ∷ left) = answer_text line a
-
-abbrev pub answers_left : Reply → List Answer → List Answer
+abbrev pub answers_left : {C : Type 0} → Reply → List (Answer C) → List (Answer C)
 answers_left (reply.Refused e) left = left
 answers_left (reply.Call call) left = drop 1 left
 
--- what all lines are answered with, line for line
-abbrev pub text_of : List Said → List Answer → List ℕ
-text_of [] left = []
-text_of (s ∷ rest) left = reply_text s.line s.reply left ++ text_of rest (answers_left s.reply left)
+abbrev pub points_after : {C : Type 0} → Reply → List (Answer C) → List Point → List Point
+points_after (reply.Refused e) left points = points
+points_after (reply.Call call) [] points = points
+points_after (reply.Call call) (a ∷ left) points = points_left a points
+
+abbrev pub text_of : {C : Type 0} → (C → List ℕ) → List Said → List (Answer C) → List Point → List ℕ
+text_of amount [] left points = []
+text_of amount (s ∷ rest) left points =
+    reply_text amount s.line s.reply left points
+    ++ text_of amount rest (answers_left s.reply left) (points_after s.reply left points)
 
 -- A job of more than 65,536 bytes is answered with one line.
 abbrev pub long_text : List ℕ

@@ -3,25 +3,17 @@
 
 mod cases;
 mod forms;
-mod lines;
-mod number;
-mod reader;
 mod refused;
 mod run;
 mod said;
-mod scan;
 mod script;
 mod sentences;
 mod setup;
 mod steps;
 mod text;
-mod words;
 
 pub use cases::worked_jobs_hold;
 pub use forms::{ClassLine, CostChoice, LayerLine, PanelLine, RegisterChoice, Verb};
-pub use lines::{Line, LineReader};
-pub use number::parse_number;
-pub use reader::{Unreadable, Word, WordReader};
 pub use refused::Refused;
 pub use run::run_job;
 pub use said::{Reply, Said};

@@ -3,8 +3,8 @@ ghost use Rattle.std.specs.Prelude.{◌≡◌};
 ghost use Rattle.job.specs.Refused.{shown};
 ghost use Rattle.job.specs.declared.refused.Refused.TheVariants.{ByJob, BySheet, ByPanel};
 
-use crate::reader::Unreadable;
 use panel::{Level, Refusal, SheetRefusal, Shown};
+use words::Unreadable;
 
 /// Why a line is refused: it cannot be read or is out of turn, or what it says is turned down.
 #[derive(Clone, Copy, PartialEq, Debug)]

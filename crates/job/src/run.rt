@@ -1,15 +1,19 @@
 // Running a whole job.
-ghost use Rattle.std.specs.Prelude.{◌≡◌, IfOk, string_bytes};
-ghost use Rattle.panel.specs.Runs.{Driven};
-ghost use Rattle.job.specs.Transcripts.{JobAnswered};
+ghost use Rattle.std.specs.Prelude.{length, IfOk, string_bytes};
+ghost use Rattle.costs.specs.Amounts.{tariff};
+ghost use Rattle.panel.specs.Setups.{setup};
+ghost use Rattle.job.specs.Transcripts.{job_places, job_lists, ToldBy, ToldIn, JobAnswered};
 
 use crate::forms::{CostChoice, RegisterChoice};
+use crate::said::Said;
 use crate::script::read_job;
 use crate::setup::Setup;
 use crate::text::write_all;
-use costs::{ByMoney, ByVias};
-use geometry::{Mark, Piece, Rect, Span};
-use panel::{Answer, Call, run_calls};
+use answers::CostText;
+use costs::{Amount, ByMoney, ByVias, CostKind, Money, ViasMoney};
+use frontier::{Entry, Note};
+use geometry::{Mark, Piece, Point, Rect, Span};
+use panel::{Call, Sheet, run_calls};
 use registers::{Pieces, PlainRegister, Register, StripRegister};
 use std::alloc::{AllocError, Global};
 
@@ -18,6 +22,18 @@ const JOB_BYTES: usize = 65_536;
 
 /// How many places for pieces a job has.
 const PLACES: usize = 256;
+
+// How long the lists are that are lent to a call: coordinates, lines of an axis, nodes and entries of the frontier.
+const COORDINATES: usize = 1_026;
+
+const LINES: usize = 1_024;
+
+const NODES: usize = 400;
+
+const ENTRIES: usize = 2_401;
+
+/// How many points the path of a connection may have.
+const POINTS: usize = 64;
 
 // A place in which no piece stands yet.
 const NO_PIECE: Piece = Piece {
@@ -32,34 +48,126 @@ const NO_PIECE: Piece = Piece {
     mark: Mark::Placed,
 };
 
-// Opens a panel over a register, makes the calls, and gives back their answers.
-fn call_over<R: Register + Drop>(
+// A place in the path list in which no point stands yet.
+const NO_POINT: Point = Point {
+    layer: 0,
+    x: 0,
+    y: 0,
+};
+
+// Places in the frontier in which nothing waits yet.
+const NO_MONEY: Entry<Money> = Entry {
+    amount: Money { units: 0 },
+    node: 0,
+};
+
+const NO_VIAS: Entry<ViasMoney> = Entry {
+    amount: ViasMoney { vias: 0, units: 0 },
+    node: 0,
+};
+
+// Opens a panel, makes the calls, and gives back what the lines are answered with.
+fn answer_by<C: CostText, K: CostKind<Amount = C>, R: Register + Drop>(
+    heap: Global,
+    sheet: Sheet,
+    kind: K,
+    register: R,
+    said: &[Said],
+    calls: &[Call],
+    nodes: &mut [Note<C>],
+    frontier: &mut [Entry<C>],
+) -> Result<String, AllocError>
+    ensures { IfOk result (λ text. ToldBy C.CostText.shown C.Amount.means (setup sheet (R.Register.places register) (tariff C.Amount.sums C.Amount.means (K.CostKind.prices kind)))
+        (job_lists (length nodes.old) (length frontier.old)) said.now calls.now (string_bytes text)) }
+{
+    let mut coordinates = [0; COORDINATES];
+    let mut xs = [0; LINES];
+    let mut ys = [0; LINES];
+    let mut path = [NO_POINT; POINTS];
+    let told = run_calls(
+        heap,
+        sheet,
+        kind,
+        register,
+        calls,
+        &mut coordinates,
+        &mut xs,
+        &mut ys,
+        nodes,
+        frontier,
+        &mut path,
+    )?;
+    write_all(heap, said, told.answers.as_slice(), told.points.as_slice())
+}
+
+// The same in the kind of cost that the job has chosen.
+fn answer_over<R: Register + Drop>(
     heap: Global,
     setup: Setup,
     register: R,
+    said: &[Said],
     calls: &[Call],
-) -> Result<Vec<Answer>, AllocError>
-    ensures { IfOk result (λ answers. Driven setup.sheet (R.Register.places register) calls.now answers.items) }
+) -> Result<String, AllocError>
+    ensures { IfOk result (λ text. ToldIn setup.cost setup.prices setup.sheet (R.Register.places register) said.now calls.now (string_bytes text)) }
 {
     let prices = setup.prices;
     match setup.cost {
-        CostChoice::Money => run_calls(heap, setup.sheet, ByMoney { prices }, register, calls),
-        CostChoice::Vias => run_calls(heap, setup.sheet, ByVias { prices }, register, calls),
+        CostChoice::Money => {
+            let kind = ByMoney { prices };
+            let mut nodes = [Note::Unseen; NODES];
+            let mut frontier = [NO_MONEY; ENTRIES];
+            answer_by(
+                heap,
+                setup.sheet,
+                kind,
+                register,
+                said,
+                calls,
+                &mut nodes,
+                &mut frontier,
+            )
+        }
+        CostChoice::Vias => {
+            let kind = ByVias { prices };
+            let mut nodes = [Note::Unseen; NODES];
+            let mut frontier = [NO_VIAS; ENTRIES];
+            answer_by(
+                heap,
+                setup.sheet,
+                kind,
+                register,
+                said,
+                calls,
+                &mut nodes,
+                &mut frontier,
+            )
+        }
     }
 }
 
 // The same over the register that the job has chosen, with 256 places.
-fn answer_calls(heap: Global, setup: Setup, calls: &[Call]) -> Result<Vec<Answer>, AllocError>
-    ensures { IfOk result (λ answers. Driven setup.sheet 256 calls.now answers.items) }
+fn answer_calls(
+    heap: Global,
+    setup: Setup,
+    said: &[Said],
+    calls: &[Call],
+) -> Result<String, AllocError>
+    ensures { IfOk result (λ text. ToldIn setup.cost setup.prices setup.sheet job_places said.now calls.now (string_bytes text)) }
 {
     let mut slots = [NO_PIECE; PLACES];
     match setup.register {
-        RegisterChoice::Plain => call_over(heap, setup, PlainRegister::new(&mut slots), calls),
+        RegisterChoice::Plain => answer_over(
+            heap,
+            setup,
+            PlainRegister::new(&mut slots),
+            said,
+            calls,
+        ),
         RegisterChoice::Strips => {
             let mut links = [0; PLACES];
             let height = setup.sheet.height();
             let register = StripRegister::new(&mut slots, &mut links, height);
-            call_over(heap, setup, register, calls)
+            answer_over(heap, setup, register, said, calls)
         }
     }
 }
@@ -72,6 +180,10 @@ pub fn run_job(heap: Global, job: &[u8]) -> Result<String, AllocError>
         return String::from_str(heap, "no 16 0 job 65536\n");
     }
     let script = read_job(heap, job)?;
-    let answers = answer_calls(heap, script.setup, script.calls.as_slice())?;
-    write_all(heap, script.said.as_slice(), answers.as_slice())
+    answer_calls(
+        heap,
+        script.setup,
+        script.said.as_slice(),
+        script.calls.as_slice(),
+    )
 }

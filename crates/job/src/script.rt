@@ -1,18 +1,18 @@
 // Reading a job from its first line to its last.
 ghost use Rattle.std.specs.Prelude.{◌≡◌, ◌++◌, IfOk, Ok, Err, OnOk};
 ghost use Rattle.job.specs.declared.setup.Stage.TheVariants as stages;
-ghost use Rattle.job.specs.Text.{lines};
+ghost use Rattle.words.specs.Text.{lines};
 ghost use Rattle.job.specs.Said.{replied, said, calls_in, Told};
 ghost use Rattle.job.specs.Scripts.{Read, Unset};
 
 use crate::forms::{CostChoice, RegisterChoice};
-use crate::lines::LineReader;
 use crate::refused::Refused;
 use crate::said::{Reply, Said};
 use crate::setup::{Setup, Stage};
 use costs::PriceList;
 use panel::{Call, Sheet};
 use std::alloc::{AllocError, Global};
+use words::LineReader;
 
 /// What a job says: what its accepted lines set, what each line that is answered comes to, and the calls among that.
 #[derive(Drop)]

@@ -1,12 +1,12 @@
 // Reading what a line says.
 ghost use Rattle.std.specs.Prelude.{◌≡◌};
-ghost use Rattle.job.specs.Reading.{of_words};
-ghost use Rattle.job.specs.Forms.{verb, read_all, panel_line, layer_line, class_line, place_line, lift_line};
+ghost use Rattle.words.specs.Reading.{of_words};
+ghost use Rattle.job.specs.Forms.{verb, read_all, panel_line, layer_line, class_line, place_line, lift_line, request_line};
 
 use crate::forms::{ClassLine, CostChoice, LayerLine, PanelLine, RegisterChoice, Verb};
-use crate::reader::{Unreadable, WordReader};
-use crate::scan::spells;
-use panel::Placement;
+use geometry::Point;
+use panel::{Placement, Request};
+use words::{Unreadable, WordReader, spells};
 
 // The kind of a line that begins with this word.
 pub(crate) fn read_verb(word: &[u8]) -> Option<Verb>
@@ -110,4 +110,27 @@ pub(crate) fn read_lift(words: &mut WordReader<'_>) -> Result<u32, Unreadable>
 {
     let [job] = read_all::<1>(words)?;
     Ok(job)
+}
+
+// The words behind `quote` and `connect`: a class, a net and two points.
+pub(crate) fn read_request(words: &mut WordReader<'_>) -> Result<Request, Unreadable>
+    ensures { result ≡ of_words request_line words.old }
+{
+    let [class, net, layer1, x1, y1, layer2, x2, y2] = read_all::<8>(words)?;
+    let first = Point {
+        layer: layer1,
+        x: x1,
+        y: y1,
+    };
+    let second = Point {
+        layer: layer2,
+        x: x2,
+        y: y2,
+    };
+    Ok(Request {
+        class,
+        net,
+        first,
+        second,
+    })
 }

@@ -1,17 +1,22 @@
 // What a line of a job comes to.
 ghost use Rattle.std.specs.Prelude.{◌≡◌, Some, None, MatchResult, OnOk};
 ghost use Rattle.job.specs.declared.forms.Verb.TheVariants as verbs;
-ghost use Rattle.job.specs.Text.{words};
-ghost use Rattle.job.specs.Reading.{of_words};
+ghost use Rattle.words.specs.Text.{words};
+ghost use Rattle.words.specs.Reading.{of_words};
 ghost use Rattle.job.specs.Stages.{line_says, by_verb, answer_of, led_on, led_on_by};
 ghost use Rattle.job.specs.Settings.{Sets, SetBy};
 
 use crate::forms::Verb;
-use crate::reader::{LINE_BYTES, Unreadable, WordReader};
 use crate::refused::Refused;
-use crate::sentences::{read_class, read_layer, read_lift, read_panel, read_place, read_verb};
+use crate::sentences::{
+    read_class, read_layer, read_lift, read_panel, read_place, read_request, read_verb,
+};
 use crate::setup::{Setup, Stage};
 use panel::{Call, SheetRefusal};
+use words::{Unreadable, WordReader};
+
+/// The most bytes that a line may have, without its newline.
+const LINE_BYTES: usize = 80;
 
 impl Setup {
     // A panel line sets the size, the kind of cost and the register.
@@ -77,6 +82,8 @@ impl Setup {
             (Stage::Setup, Verb::Open) => self.open(words),
             (Stage::Open, Verb::Place) => Ok(Some(Call::Place(read_place(words)?))),
             (Stage::Open, Verb::Lift) => Ok(Some(Call::Lift(read_lift(words)?))),
+            (Stage::Open, Verb::Quote) => Ok(Some(Call::Quote(read_request(words)?))),
+            (Stage::Open, Verb::Connect) => Ok(Some(Call::Connect(read_request(words)?))),
             _ => Err(Refused::ByJob(Unreadable { place: 0 })),
         }
     }

@@ -6,9 +6,13 @@ mod asked;
 #[cfg(test)]
 mod calls;
 #[cfg(test)]
+mod connects;
+#[cfg(test)]
 mod full;
 #[cfg(test)]
 mod long;
+#[cfg(test)]
+mod quotes;
 #[cfg(test)]
 mod settings;
 #[cfg(test)]

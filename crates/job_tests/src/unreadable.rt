@@ -113,7 +113,7 @@ const AT_SETUP: [(&str, usize); 33] = [
 ];
 
 /// Behind an accepted open line, where only calls are in turn.
-const AT_CALLS: [(&str, usize); 44] = [
+const AT_CALLS: [(&str, usize); 62] = [
     ("", 0),
     (" ", 0),
     ("move 1", 0),
@@ -158,6 +158,24 @@ const AT_CALLS: [(&str, usize); 44] = [
     ("place 1 40 0 50  60 0 0", 16),
     ("place 9 99 99 0 0 999 07", 22),
     ("place 1 40 0 -50 60 0 0", 13),
+    ("Quote 1 8 1 10 10 1 90 10", 0),
+    ("quotes 1 8 1 10 10 1 90 10", 0),
+    ("quote", 5),
+    ("quote 1 8 1 10 10 1 90", 22),
+    ("quote 1 8 1 10 10 1 90 ", 23),
+    ("quote 1 8 1 10 10 1 90 x", 23),
+    ("quote 1 8 1 10 10 1 90 10 1", 26),
+    ("quote 1 8 1 10 10 1 90 10 ", 26),
+    ("quote 1 08 1 10 10 1 90 10", 8),
+    ("quote 99 999 9 999 999 9 999 99999999", 29),
+    ("Connect 1 7 1 10 30 1 90 30", 0),
+    ("connects 1 7 1 10 30 1 90 30", 0),
+    ("connect", 7),
+    ("connect 1 7 1 10 30 1 90", 24),
+    ("connect 1 7 1 10 30 1 90 30 ", 28),
+    ("connect 1 7 1 10 30 1 90 30 1", 28),
+    ("connect 1 7 1 10  30 1 90 30", 17),
+    ("connect 1 7 1 10 30 1 90 -30", 25),
 ];
 
 /// Each line is refused by 16, with this number of a line.

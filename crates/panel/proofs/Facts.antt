@@ -16,3 +16,7 @@ both false b h k = absurd h
 pub not_both_ways : (b : Bool) → T b → T (not b) → ⊥
 not_both_ways true h k = k
 not_both_ways false h k = h
+
+pub stable : (b : Bool) → (T (not b) → ⊥) → T b
+stable true h = tt
+stable false h = absurd (h tt)

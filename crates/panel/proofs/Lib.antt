@@ -1,6 +1,11 @@
+pub mod Causes
+pub mod Connecting
 pub mod Driving
 pub mod Facts
 pub mod Keeping
+pub mod Laying
 pub mod Lifting
 pub mod Orders
 pub mod Placing
+pub mod Quoting
+pub mod Tracking

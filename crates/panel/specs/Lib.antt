@@ -1,8 +1,12 @@
 pub mod Calls
 pub mod Checks
+pub mod Connects
 pub mod Panels
+pub mod Quotes
 pub mod Refusals
+pub mod Requests
 pub mod Runs
+pub mod Setups
 pub mod Sheets
 pub mod Sizes
 pub mod Standing

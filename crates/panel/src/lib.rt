@@ -2,15 +2,19 @@
 #![tactic(auto)]
 
 mod calls;
+mod connect;
+mod lay;
 mod panel;
 mod place;
+mod quote;
 mod refusal;
+mod requests;
 mod run;
 mod settings;
 mod sheet;
 
-pub use calls::{Answer, Call, Placement};
+pub use calls::{Answer, Call, Connection, Placement, Request};
 pub use panel::Panel;
 pub use refusal::{Level, Refusal, SheetRefusal, Shown};
-pub use run::{promise_over_runs, run_calls};
+pub use run::{Answers, promise_over_runs, run_calls};
 pub use sheet::Sheet;

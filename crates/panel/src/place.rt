@@ -15,7 +15,7 @@ use geometry::{Mark, Piece, Question, Rect, Span};
 use registers::{Pieces, Register};
 
 /// The last job number that is ever given.
-const LAST_JOB: u16 = 65_535;
+pub(crate) const LAST_JOB: u16 = 65_535;
 
 impl Sheet {
     // Whether the panel lacks a layer.

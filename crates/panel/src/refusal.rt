@@ -12,14 +12,14 @@ pub enum Refusal {
     NetRange,
     OffPanel,
     SamePoint,
-    TooFewPlaces(u32),
+    TooFewPlaces(usize),
     InTheWay(u32),
     NoSuchJob,
     ShortCoordinates(u32),
     TooManyLines,
     ShortNodes(u32),
     NoPath,
-    ShortPath(u32),
+    ShortPath(usize),
     JobsUsedUp,
 }
 

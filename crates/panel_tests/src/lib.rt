@@ -4,6 +4,8 @@
 #[cfg(test)]
 mod calls;
 #[cfg(test)]
+mod connects;
+#[cfg(test)]
 mod sheets;
 #[cfg(test)]
 mod shown;

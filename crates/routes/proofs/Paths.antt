@@ -54,7 +54,7 @@ line_move_goes R X Y p (along_x x) h ok = neighbours_apart X p.x x (left (neighb
 line_move_goes R X Y p (along_y y) h ok = neighbours_apart Y p.y y (left (neighbours Y p.y y) (mem p.x X) h)
 line_move_goes R X Y p (to_layer l) h ok = step_goes (gap p.layer l) (via_next R p l (move_free R p (to_layer l) ok))
 
-line_moves_go : (R : Rules) (X Y : List ℕ) (p : Point) (r : List Move) → T (every (line_move X Y) p r) → T (lawful R p r)
+pub line_moves_go : (R : Rules) (X Y : List ℕ) (p : Point) (r : List Move) → T (every (line_move X Y) p r) → T (lawful R p r)
     → T (every goes p r)
 line_moves_go R X Y p [] h ok = tt
 line_moves_go R X Y p (m ∷ r) h ok =

@@ -14,11 +14,10 @@ use Rattle.routes.proofs.Bools.{left, right, both}
 use Rattle.search.specs.declared.grid.Grid.{Grid}
 use Rattle.search.specs.declared.nodes.Way.{Way}
 use Rattle.search.specs.declared.nodes.Way.TheVariants.{Left, Right, Down, Up, Below, Above}
-use Rattle.search.specs.Grids.{grid_point, grid_rules, grid_shape, grid_price, join, joins_from}
+use Rattle.search.specs.Grids.{place, grid_point, grid_rules, grid_shape, grid_price, join, joins_from}
 use Rattle.search.specs.Lattices.{crossing_on, crossing_back, node_back, node_inside, beside_on, next_says}
 use Rattle.search.specs.Nodes.{node_total, node_at, crossing_at, way_of, ahead}
 use Rattle.search.proofs.Adjacent.{same_place}
-use Rattle.search.proofs.Points.{place}
 use Rattle.search.proofs.Stepping.{Joined, beside_joined, move_steps}
 
 number : Way → ℕ

@@ -1,33 +1,34 @@
 -- The least cost along the lines of a request is the least cost of its paths. Assumes nothing.
 use Rattle.std.proofs.Common.{◌≡◌, ℕ, zero, suc, ◌*◌, ◌<◌, ◌≤◌, Bool, true, false, ◌&&◌, T, eqb, leb, List, [], ◌∷◌, map, reverse, length, get_or, sym, refl, ap, ◌∙◌, subst, inl, inr, arith, leb→le}
 use lib.Dec.{eqb_refl}
+use Rattle.std.specs.List.{AllByRecursion}
 use Rattle.std.proofs.lemmas.Bool.{cases_lt}
 use Rattle.costs.specs.Amounts.{Sums, Laws, Prices, Tariff, tariff}
 use Rattle.frontier.specs.declared.note.Note.{Note}
 use Rattle.frontier.specs.Held.{marks, Traced}
 use Rattle.frontier.proofs.Trails.{turned, trail_route}
+use Rattle.frontier.specs.Ways.{Leads}
 use Rattle.frontier.specs.Routes.{Route, LeastCost, HasNoRoute}
 use Rattle.geometry.specs.declared.piece.Piece.{Piece}
 use Rattle.geometry.specs.declared.point.Point.{Point}
 use Rattle.geometry.specs.Lists.{all_of, mem}
 use Rattle.geometry.specs.Ranges.{ranges}
 use Rattle.routes.specs.Lines.{enough_lines, among, LineRoute, LinePath}
-use Rattle.routes.specs.Turns.{none_twice}
+use Rattle.routes.specs.Turns.{stops, none_twice}
 use Rattle.routes.specs.Rules.{rules_of}
 use Rattle.routes.specs.Routes.{Move, Rules, cost, NoneCheaper, HasNoPath}
 use Rattle.routes.proofs.Bools.{left, right, both, first, second}
 use Rattle.routes.proofs.Few.{lines_lie_on_the_panel}
 use Rattle.routes.proofs.Listed.{all_of_from, mem_in, mem_distinct}
-use Rattle.routes.proofs.Paths.{line_routes_are_unit_routes}
 use Rattle.routes.proofs.Suffice.{least_on_lines_is_least, no_line_route_no_path}
 use Rattle.search.specs.declared.grid.Grid.{Grid}
 use Rattle.search.specs.declared.request.Request.{Request}
 use Rattle.search.specs.Axes.{extent_coordinates}
-use Rattle.search.specs.Located.{NodeOf, NoNode}
-use Rattle.search.specs.Grids.{grid_point, grid_rules, joins}
+use Rattle.search.specs.Located.{NoNode}
+use Rattle.search.specs.Grids.{grid_point, grid_rules, joins_from}
 use Rattle.search.specs.Nodes.{node_total}
 use Rattle.search.specs.Requests.{proper, sized, on_the_panel, x_extent, y_extent, request_rules, request_X, request_Y, request_nodes}
-use Rattle.search.specs.Told.{GridOf, LeastPath, Led}
+use Rattle.search.specs.Told.{GridOf}
 use Rattle.search.proofs.Counting.{place_mem, mem_place}
 use Rattle.search.proofs.Leading.{Apart, apart_turned, no_cross, trail_apart, trail_turned, points_apart}
 use Rattle.search.proofs.Following.{Ruled, S, point_inside, same_node, Followed, follow, trace_back}
@@ -43,7 +44,7 @@ past [] i h = refl
 past (x ∷ xs) zero h = absurd (omega arith)
 past (x ∷ xs) (suc i) h = past xs i (omega arith)
 
-test_says : (test : ℕ → Bool) (ns : List ℕ) (n : ℕ) → T (all_of test ns) → T (mem n ns) → T (test n)
+pub test_says : (test : ℕ → Bool) (ns : List ℕ) (n : ℕ) → T (all_of test ns) → T (mem n ns) → T (test n)
 test_says test ns n h m = go ns h (mem_place n ns m)
   where
     go : (ns : List ℕ) → T (all_of test ns) → (k : ℕ) × (k < length ns) × (get_or ns k 0 ≡ n) → T (test n)
@@ -94,6 +95,22 @@ ruled_grid q is_proper ps g of = record {
   top = subst (λ h. (i : ℕ) → get_or g.ys.now i 0 ≤ h) (sym of.height_is)
       (lines_below (request_Y q ps) g.ys.now q.height of.upright.same (YOn q is_proper ps));
 }
+
+-- The notes lead back from one node to another; from there on, that way is a least-cost path along the lines of the grid, which
+-- visits no node twice, and costs a.
+pub record Led {K P C M : Type 0} (tf : Tariff M) (q : Request) (ps : List Piece) (g : Grid K P) (notes : List (Note C)) (a : M)
+    (from to : ℕ) : Type 0 where
+  pub back : List ℕ
+  pub leads : Leads notes from to back
+  pub nodes : List ℕ
+  pub turn : reverse (to ∷ back) ≡ from ∷ nodes
+  pub stay : AllByRecursion (λ v. v < node_total g.lattice) (from ∷ nodes)
+  pub starts : grid_point g from ≡ q.first
+  pub moves : List Move
+  pub path : LinePath tf (request_rules q ps) g.xs.now g.ys.now q.first q.second moves
+  pub costs : cost tf q.first moves ≡ a
+  pub visits : stops q.first moves ≡ map (grid_point g) nodes
+  pub are : moves ≡ joins_from q.first (map (grid_point g) nodes)
 
 module _ {K P C M : Type 0} (q : Request) (is_proper : T (proper q)) (ps : List Piece) (g : Grid K P) (of : GridOf q ps g)
     (prices : Prices C) (sums : Sums M) (laws : Laws sums) (means : C → M) (from to : ℕ)
@@ -150,22 +167,10 @@ module _ {K P C M : Type 0} (q : Request) (is_proper : T (proper q)) (ps : List 
       let there : b.to ≡ to = same_node g ruled b.to to b.stays to_in (sym b.ends ∙ line.ends) in
       (b.nodes, subst (λ w. Route (S g ruled ps prices sums means from) from b.nodes w (cost tf s r)) there b.route)
 
-  least_here : (a : M) → LeastCost (S g ruled ps prices sums means from) to a → LeastPath tf R s t a
-  least_here a l =
-      let f = follow g ruled ps prices sums means from from l.nodes to a from_in l.route in
-      let u = line_routes_are_unit_routes sums laws tf.prices g.width g.height g.lattice.layers g.class g.net ps s t X Y
-      f.moves (line_route l.nodes a f) in
-      record {
-        moves = u.0;
-        path = u.1;
-        costs = u.2 ∙ f.costs;
-        least = least_on_lines_is_least sums laws tf.prices g.width g.height g.lattice.layers g.class g.net ps s t X Y
-            enough_here a (λ r line. let n = as_route r line in l.lowest n.0 (cost tf s r) n.1);
-      }
-
-  pub least_path : (a : M) → LeastCost (S g ruled ps prices sums means from) to a
-      → LeastPath tf (request_rules q ps) q.first q.second a
-  least_path a l = subst (λ v. v) (λ i. LeastPath tf (rules_same i) (from_is i) (to_is i) a) (least_here a l)
+  none_cheaper : (a : M) → LeastCost (S g ruled ps prices sums means from) to a → NoneCheaper R tf s t a
+  none_cheaper a l =
+      least_on_lines_is_least sums laws tf.prices g.width g.height g.lattice.layers g.class g.net ps s t X Y
+      enough_here a (λ r line. let n = as_route r line in l.lowest n.0 (cost tf s r) n.1)
 
   no_path_here : HasNoRoute (S g ruled ps prices sums means from) to → HasNoPath R s t
   no_path_here none =
@@ -183,10 +188,8 @@ module _ {K P C M : Type 0} (q : Request) (is_proper : T (proper q)) (ps : List 
       let f = marks means notes in
       let back = traced.back in
       let nodes = turned to back [] in
-      let all = reverse (to ∷ back) in
-      let turn : all ≡ from ∷ nodes = trail_turned search f back to a [] traced.trail in
+      let turn : reverse (to ∷ back) ≡ from ∷ nodes = trail_turned search f back to a [] traced.trail in
       let way = follow g ruled ps prices sums means from from nodes to a from_in (trail_route search laws f back to a traced.trail) in
-      let are : way.moves ≡ joins (map (grid_point g) all) = way.are ∙ ap (λ ns. joins (map (grid_point g) ns)) (sym turn) in
       let apart : Apart (from ∷ nodes) =
       subst Apart turn (apart_turned back to [] (trail_apart search f back to a traced.trail) tt (no_cross (to ∷ back))) in
       let once : T (none_twice (map (grid_point g) (from ∷ nodes))) =
@@ -194,15 +197,20 @@ module _ {K P C M : Type 0} (q : Request) (is_proper : T (proper q)) (ps : List 
       let path : LinePath tf R X Y s t way.moves = record {
         route = line_route nodes a way;
         simple = subst (λ ps. T (none_twice (s ∷ ps))) (sym way.visits) once;
-        least = subst (λ m. NoneCheaper R tf s t m) (sym way.costs) (least_here a least).least;
+        least = subst (λ m. NoneCheaper R tf s t m) (sym way.costs) (none_cheaper a least);
       } in
       record {
         back = back;
         leads = traced.leads;
-        few = traced.few;
-        path = subst (λ ms. LinePath tf (request_rules q ps) X Y q.first q.second ms) are
-            (subst (λ v. v) (λ i. LinePath tf (rules_same i) X Y (from_is i) (to_is i) way.moves) path);
-        costs = subst (λ ms. cost tf q.first ms ≡ a) are (subst (λ p. cost tf p way.moves ≡ a) from_is way.costs);
+        nodes = nodes;
+        turn = turn;
+        stay = (from_in, way.stay);
+        starts = from_is;
+        moves = way.moves;
+        path = subst (λ v. v) (λ i. LinePath tf (rules_same i) X Y (from_is i) (to_is i) way.moves) path;
+        costs = subst (λ p. cost tf p way.moves ≡ a) from_is way.costs;
+        visits = subst (λ p. stops p way.moves ≡ map (grid_point g) nodes) from_is way.visits;
+        are = subst (λ p. way.moves ≡ joins_from p (map (grid_point g) nodes)) from_is way.are;
       }
 
 -- the nodes of a grid are those of the request
@@ -233,8 +241,3 @@ module _ {K P : Type 0} (q : Request) (is_proper : T (proper q)) (ps : List Piec
       (first (eqb q.second.x q.second.x) _ (eqb_refl q.second.x))))
       (mem_distinct q.second.y (extent_coordinates (y_extent q) q.class q.net ps) (second (eqb q.second.y q.first.y) _
       (first (eqb q.second.y q.second.y) _ (eqb_refl q.second.y))))
-
--- one node lies at a point
-pub one_node : {K P : Type 0} (q : Request) (is_proper : T (proper q)) (ps : List Piece) (g : Grid K P) (of : GridOf q ps g)
-    (u w : ℕ) {p : Point} → NodeOf g p u → NodeOf g p w → u ≡ w
-one_node q is_proper ps g of u w a b = same_node g (ruled_grid q is_proper ps g of) u w a.inside b.inside (a.is ∙ sym b.is)

@@ -9,4 +9,6 @@ pub mod Leasts
 pub mod Points
 pub mod Putting
 pub mod Stepping
+pub mod Tracing
+pub mod Tracking
 pub mod Ways

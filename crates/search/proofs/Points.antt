@@ -1,5 +1,5 @@
 -- Where the nodes of a grid lie. Assumes nothing.
-use Rattle.std.proofs.Common.{◌≡◌, ℕ, ◌+◌, ◌-◌, ◌<◌, Bool, true, false, cond, eqb, ltb, List, get_or, Some, None, sym, refl, ap, ◌∙◌, subst, arith, ltb-true, lt-ltb, eq-eqb, eqb-true}
+use Rattle.std.proofs.Common.{◌≡◌, ℕ, ◌+◌, ◌-◌, ◌<◌, Bool, true, false, cond, eqb, ltb, List, Some, None, sym, refl, ap, ◌∙◌, subst, arith, ltb-true, lt-ltb, eq-eqb, eqb-true}
 use borrow.Author.Tests.{eqb-false}
 use Rattle.geometry.specs.declared.point.Point.{Point}
 use Rattle.routes.specs.Routes.{gap, Rules, on_free_ground}
@@ -8,13 +8,9 @@ use Rattle.search.specs.declared.lattice.Lattice.{Lattice}
 use Rattle.search.specs.declared.nodes.Crossing.{Crossing}
 use Rattle.search.specs.declared.nodes.Way.{Way}
 use Rattle.search.specs.declared.nodes.Way.TheVariants.{Left, Right, Down, Up, Below, Above}
-use Rattle.search.specs.Grids.{grid_points, grid_point, InReach, Adjoin, join}
+use Rattle.search.specs.Grids.{place, grid_points, grid_point, InReach, Adjoin, join}
 use Rattle.search.specs.Lattices.{crossing_on, crossing_back, beside_on, next_says, true_from}
 use Rattle.search.specs.Nodes.{node_total, crossing_at, beside, next_of, in_column, in_row, on_level}
-
--- the point of a crossing
-abbrev pub place : List ℕ → List ℕ → Crossing → Point
-place X Y c = record { layer = c.level + 1; x = get_or X c.column 0; y = get_or Y c.row 0 }
 
 -- what a grid answers
 

@@ -13,13 +13,12 @@ use Rattle.search.specs.declared.lattice.Lattice.{Lattice}
 use Rattle.search.specs.declared.nodes.Crossing.{Crossing}
 use Rattle.search.specs.declared.nodes.Way.{Way}
 use Rattle.search.specs.declared.nodes.Way.TheVariants.{Left, Right, Down, Up, Below, Above}
-use Rattle.search.specs.Grids.{join}
+use Rattle.search.specs.Grids.{place, join}
 use Rattle.search.specs.Lattices.{On, true_from}
 use Rattle.search.specs.Nodes.{beside, in_column, in_row, on_level}
 use Rattle.search.proofs.Adjacent.{next_up, next_down, adjacent}
 use Rattle.search.proofs.Counting.{place_mem}
 use Rattle.search.proofs.Joins.{join_x, join_y, join_via}
-use Rattle.search.proofs.Points.{place}
 
 -- the move that joins two points is along the lines, and leads from the one to the other
 pub record Joined (X Y : List ℕ) (p q : Point) : Type 0 where

@@ -1,4 +1,5 @@
 -- The grid of a request: where its nodes lie, which moves between them are free and what they cost. Assumes nothing.
+--     place X Y c              the point of a crossing, by the lists of lines
 --     point_of l X Y n         the point of a node
 --     join p q, joins ps       the move that joins two points; the moves that join points, one behind the other
 --     grid_shape ps g          the grid as a graph, where these pieces stand
@@ -12,11 +13,14 @@ use Rattle.routes.specs.Routes.{Move, along_x, along_y, to_layer, gap, Rules, on
 use Rattle.routes.specs.Rules.{rules_of}
 use Rattle.search.specs.declared.grid.Grid.{Grid}
 use Rattle.search.specs.declared.lattice.Lattice.{Lattice}
+use Rattle.search.specs.declared.nodes.Crossing.{Crossing}
 use Rattle.search.specs.Nodes.{node_total, crossing_at, next_of}
 
+abbrev pub place : List ℕ → List ℕ → Crossing → Point
+place X Y c = record { layer = c.level + 1; x = slice_index X c.column; y = slice_index Y c.row }
+
 abbrev pub point_of : Lattice → List ℕ → List ℕ → ℕ → Point
-point_of l X Y n =
-    record { layer = (crossing_at l n).level + 1; x = slice_index X (crossing_at l n).column; y = slice_index Y (crossing_at l n).row }
+point_of l X Y n = place X Y (crossing_at l n)
 
 abbrev pub grid_points : {K P : Type 0} → Grid K P → ℕ → Option Point
 grid_points g n = cond (nat_lt n (node_total g.lattice)) (Some (point_of g.lattice g.xs.now g.ys.now n)) None

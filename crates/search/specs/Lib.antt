@@ -7,3 +7,5 @@ pub mod Located
 pub mod Nodes
 pub mod Requests
 pub mod Told
+pub mod Traces
+pub mod Tracks

@@ -4,30 +4,27 @@
 --     ToldRefusal              why it is turned down, and that no check before does
 --     ToldLattice              the lines of the request stand first in the lists of lines
 --     LeastPath tf R s t a     some lawful path costs a, and none costs less
---     Led, LedBack             the notes of a search lead back along a least-cost path
---     ToldPath, ToldCost       the least cost of a lawful path, or that there is none, or a refusal
-use Rattle.std.specs.Prelude.{◌≡◌, ℕ, ◌+◌, ◌*◌, ◌<◌, Bool, true, false, List, ◌∷◌, map, reverse, length, Ok, Err, Result}
+--     ToldPath, ToldSearch     what was found, or that there is no lawful path, or a refusal
+--     ToldCost, ToldTrack      the least cost of a lawful path; the track of a least-cost path
+use Rattle.std.specs.Prelude.{◌≡◌, ℕ, ◌+◌, ◌*◌, Bool, true, false, List, length, Ok, Err, Result}
 use Rattle.costs.specs.Amounts.{Tariff}
-use Rattle.frontier.specs.declared.note.Note.{Note}
-use Rattle.frontier.specs.Ways.{Leads}
+use Rattle.frontier.specs.declared.entry.Entry.{Entry}
 use Rattle.geometry.specs.declared.piece.Piece.{Piece}
 use Rattle.geometry.specs.declared.point.Point.{Point}
 use Rattle.geometry.specs.Lists.{mem}
 use Rattle.queue.specs.Distinct.{Climbs}
-use Rattle.routes.specs.Lines.{LinePath}
 use Rattle.routes.specs.Routes.{Move, Rules, Path, cost, NoneCheaper, HasNoPath}
 use Rattle.search.specs.declared.grid.Grid.{Grid}
 use Rattle.search.specs.declared.lattice.Lattice.{Lattice}
 use Rattle.search.specs.declared.outcome.Outcome.{Outcome}
-use Rattle.search.specs.declared.outcome.Outcome.TheVariants.{Cost, NoPath, Refused}
+use Rattle.search.specs.declared.outcome.Outcome.TheVariants.{Found, NoPath, Refused}
 use Rattle.search.specs.declared.request.Refusal.{Refusal}
 use Rattle.search.specs.declared.request.Refusal.TheVariants.{Improper, ShortLists, TooManyLines, ShortNodes}
 use Rattle.search.specs.declared.request.Request.{Request}
+use Rattle.search.specs.declared.track.Track.{Track}
 use Rattle.search.specs.Drawing.{ToldLines}
-use Rattle.search.specs.Grids.{grid_point, joins}
-use Rattle.search.specs.Located.{NodeOf}
-use Rattle.search.specs.Nodes.{node_total}
 use Rattle.search.specs.Requests.{proper, request_rules, request_X, request_Y, lists_short, many_lines, request_nodes, nodes_short}
+use Rattle.search.specs.Tracks.{TrackOf}
 
 -- the lines ascend, and are those of the request, each once
 pub record LinesOf (ls found : List ℕ) : Type 0 where
@@ -83,12 +80,10 @@ pub record LeastPath {M : Type 0} (tf : Tariff M) (R : Rules) (s t : Point) (a :
   pub costs : cost tf s moves ≡ a
   pub least : NoneCheaper R tf s t a
 
--- where there are so many notes and entries; means tells what amounts mean
-module _ {C M : Type 0} (tf : Tariff M) (means : C → M) (q : Request) (ps : List Piece) where
-  abbrev pub ToldPath : ℕ → ℕ → Outcome C → Type 0
-  ToldPath notes entries (Cost a) =
-      (nodes_short (request_nodes q ps) notes entries ≡ false)
-      × LeastPath tf (request_rules q ps) q.first q.second (means a)
+-- where there are so many notes and entries, and `Good` says what is promised of what was found
+module _ {F : Type 0} (Good : F → Type 0) (q : Request) (ps : List Piece) where
+  abbrev pub ToldPath : ℕ → ℕ → Outcome F → Type 0
+  ToldPath notes entries (Found x) = (nodes_short (request_nodes q ps) notes entries ≡ false) × Good x
   ToldPath notes entries NoPath =
       (nodes_short (request_nodes q ps) notes entries ≡ false) × HasNoPath (request_rules q ps) q.first q.second
   ToldPath notes entries (Refused Improper) = ⊥
@@ -96,32 +91,24 @@ module _ {C M : Type 0} (tf : Tariff M) (means : C → M) (q : Request) (ps : Li
   ToldPath notes entries (Refused TooManyLines) = ⊥
   ToldPath notes entries (Refused (ShortNodes n)) = (n ≡ request_nodes q ps) × (nodes_short n notes entries ≡ true)
 
-  abbrev pub ToldCost : ℕ → ℕ → ℕ → ℕ → ℕ → Outcome C → Type 0
-  ToldCost j k k' notes entries (Cost a) = Passed q ps j k k' × ToldPath notes entries (Cost a)
-  ToldCost j k k' notes entries NoPath = Passed q ps j k k' × ToldPath notes entries NoPath
-  ToldCost j k k' notes entries (Refused Improper) = ToldRefusal q ps j k k' Improper
-  ToldCost j k k' notes entries (Refused (ShortLists n)) = ToldRefusal q ps j k k' (ShortLists n)
-  ToldCost j k k' notes entries (Refused TooManyLines) = ToldRefusal q ps j k k' TooManyLines
-  ToldCost j k k' notes entries (Refused (ShortNodes n)) = Passed q ps j k k' × ToldPath notes entries (Refused (ShortNodes n))
+  abbrev pub ToldSearch : ℕ → ℕ → ℕ → ℕ → ℕ → Outcome F → Type 0
+  ToldSearch j k k' notes entries (Found x) = Passed q ps j k k' × ToldPath notes entries (Found x)
+  ToldSearch j k k' notes entries NoPath = Passed q ps j k k' × ToldPath notes entries NoPath
+  ToldSearch j k k' notes entries (Refused Improper) = ToldRefusal q ps j k k' Improper
+  ToldSearch j k k' notes entries (Refused (ShortLists n)) = ToldRefusal q ps j k k' (ShortLists n)
+  ToldSearch j k k' notes entries (Refused TooManyLines) = ToldRefusal q ps j k k' TooManyLines
+  ToldSearch j k k' notes entries (Refused (ShortNodes n)) = Passed q ps j k k' × ToldPath notes entries (Refused (ShortNodes n))
 
-abbrev pub refused_early : {C : Type 0} → Outcome C → Bool
-refused_early (Cost a) = false
+-- means tells what amounts mean
+module _ {C M : Type 0} (tf : Tariff M) (means : C → M) (q : Request) (ps : List Piece) where
+  abbrev pub ToldCost : ℕ → ℕ → ℕ → ℕ → ℕ → Outcome C → Type 0
+  ToldCost = ToldSearch (λ a. LeastPath tf (request_rules q ps) q.first q.second (means a)) q ps
+
+  -- the lists of lines hold X and Y then, and the frontier's es
+  abbrev pub ToldTrack : ℕ → ℕ → ℕ → ℕ → ℕ → List ℕ → List ℕ → List (Entry C) → Outcome (Track C) → Type 0
+  ToldTrack j k k' notes entries X Y es = ToldSearch (TrackOf tf means q ps X Y es) q ps j k k' notes entries
+
+abbrev pub refused_early : {F : Type 0} → Outcome F → Bool
+refused_early (Found x) = false
 refused_early NoPath = false
 refused_early (Refused r) = early r
-
--- The notes lead back from one node to another, by fewer nodes than there are; from there on, that way is a least-cost path
--- along the lines of the grid, which visits no node twice, and costs a.
-pub record Led {K P C M : Type 0} (tf : Tariff M) (q : Request) (ps : List Piece) (g : Grid K P) (notes : List (Note C)) (a : M)
-    (from to : ℕ) : Type 0 where
-  pub back : List ℕ
-  pub leads : Leads notes from to back
-  pub few : length back < node_total g.lattice
-  pub path : LinePath tf (request_rules q ps) g.xs.now g.ys.now q.first q.second
-      (joins (map (grid_point g) (reverse (to ∷ back))))
-  pub costs : cost tf q.first (joins (map (grid_point g) (reverse (to ∷ back)))) ≡ a
-
-abbrev pub LedBack : {K P C M : Type 0} → Tariff M → (C → M) → Request → List Piece → Grid K P → List (Note C) → Outcome C → Type 0
-LedBack tf means q ps g notes (Cost a) =
-    (from to : ℕ) → NodeOf g q.first from → NodeOf g q.second to → Led tf q ps g notes (means a) from to
-LedBack tf means q ps g notes NoPath = Unit {0}
-LedBack tf means q ps g notes (Refused r) = Unit {0}

@@ -80,7 +80,7 @@ pub(crate) fn draw_lattice<P: Pieces>(
     }
     let m = register.count();
     if too_short(m, coordinates.len(), xs.len(), ys.len()) {
-        return Err(Refusal::ShortLists(4 * m + 2));
+        return Err(Refusal::ShortLists(4 * m as u32 + 2));
     }
     let net = request.net;
     let columns = match draw_lines(

@@ -1,54 +1,14 @@
 // The least cost of a request.
-ghost use Rattle.std.specs.Prelude.{◌≡◌, true, T, length};
+ghost use Rattle.std.specs.Prelude.{◌≡◌, T, length};
 ghost use Rattle.costs.specs.Amounts.{tariff};
-ghost use Rattle.search.specs.Requests.{proper, nodes_short};
-ghost use Rattle.search.specs.Told.{GridOf, LedBack, ToldPath, ToldCost, refused_early};
+ghost use Rattle.search.specs.Told.{ToldCost, refused_early};
 
-use crate::drawing::draw_lattice;
-use crate::grid::Grid;
+use crate::find::find_track;
 use crate::outcome::Outcome;
-use crate::request::{Refusal, Request};
+use crate::request::Request;
 use costs::CostKind;
-use frontier::{Entry, Found, Graph, Note, find_least};
+use frontier::{Entry, Note};
 use registers::Pieces;
-
-/// Whether the list of notes or the frontier's is too short for so many nodes.
-fn nodes_short(n: u32, notes: usize, entries: usize) -> bool
-    ensures { result ≡ nodes_short n notes entries }
-{
-    notes < n as usize || entries < 6 * n as usize + 1
-}
-
-impl<'a, K: CostKind, P: Pieces> Grid<'a, K, P> {
-    /// The least cost of a lawful path between the terminals of the request that the grid is of.
-    pub(crate) fn find_path(
-        &self,
-        request: &Request,
-        nodes: &mut [Note<K::Amount>],
-        frontier: &mut [Entry<K::Amount>],
-    ) -> Outcome<K::Amount>
-        ensures answer { proper request.now ≡ true → GridOf request.now (P.Pieces.pieces self.now.register.now) self.now
-            → ToldPath (tariff K.Amount.Amount.sums K.Amount.Amount.means (K.CostKind.prices self.now.kind)) K.Amount.Amount.means request.now (P.Pieces.pieces self.now.register.now) (length nodes.old) (length frontier.old) result }
-        ensures led { proper request.now ≡ true → GridOf request.now (P.Pieces.pieces self.now.register.now) self.now
-            → LedBack (tariff K.Amount.Amount.sums K.Amount.Amount.means (K.CostKind.prices self.now.kind)) K.Amount.Amount.means request.now (P.Pieces.pieces self.now.register.now) self.now nodes.new result }
-    {
-        let n = self.lattice.size();
-        if nodes_short(n, nodes.len(), frontier.len()) {
-            return Outcome::Refused(Refusal::ShortNodes(n));
-        }
-        let Some(from) = self.node(&request.first) else {
-            return Outcome::NoPath;
-        };
-        let Some(to) = self.node(&request.second) else {
-            return Outcome::NoPath;
-        };
-        match find_least(self, from, to, nodes, frontier) {
-            Found::Least(amount) => Outcome::Cost(amount),
-            Found::NoRoute => Outcome::NoPath,
-            Found::Refused => Outcome::Refused(Refusal::ShortNodes(n)),
-        }
-    }
-}
 
 /// The least cost of a lawful path between the terminals of a request, by way of the lent lists.
 pub fn least_cost<K: CostKind, P: Pieces>(
@@ -66,20 +26,18 @@ pub fn least_cost<K: CostKind, P: Pieces>(
     ensures unchanged { T (refused_early result) → (coordinates.new ≡ coordinates.old) × (xs.new ≡ xs.old) × (ys.new ≡ ys.old)
         × (nodes.new ≡ nodes.old) × (frontier.new ≡ frontier.old) }
 {
-    let lattice = match draw_lattice(request, register, coordinates, xs, ys) {
-        Ok(lattice) => lattice,
-        Err(refusal) => return Outcome::Refused(refusal),
-    };
-    let grid = Grid {
-        width: request.width,
-        height: request.height,
-        lattice,
-        class: request.class,
-        net: request.net,
+    match find_track(
+        request,
         kind,
-        xs: &xs[0..lattice.columns as usize],
-        ys: &ys[0..lattice.rows as usize],
         register,
-    };
-    grid.find_path(request, nodes, frontier)
+        coordinates,
+        xs,
+        ys,
+        nodes,
+        frontier,
+    ) {
+        Outcome::Found(track) => Outcome::Found(track.cost),
+        Outcome::NoPath => Outcome::NoPath,
+        Outcome::Refused(refusal) => Outcome::Refused(refusal),
+    }
 }

@@ -2,6 +2,7 @@
 #![tactic(auto)]
 
 mod drawing;
+mod find;
 mod graph;
 mod grid;
 mod lattice;
@@ -11,8 +12,12 @@ mod locate;
 mod moves;
 mod nodes;
 mod outcome;
+mod place;
 mod request;
+mod trace;
+mod track;
 
+pub use find::find_track;
 pub use grid::Grid;
 pub use lattice::Lattice;
 pub use least::least_cost;
@@ -20,3 +25,5 @@ pub use lines::{Drawn, LINES, draw_lines};
 pub use nodes::{Crossing, Way};
 pub use outcome::Outcome;
 pub use request::{Axis, Extent, Refusal, Request};
+pub use trace::write_track;
+pub use track::Track;

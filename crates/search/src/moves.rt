@@ -46,11 +46,7 @@ impl<'a, K, P> Grid<'a, K, P> {
         ensures { result ≡ grid_points self.now node }
     {
         let c = self.lattice.crossing(node)?;
-        Some(Point {
-            layer: c.level + 1,
-            x: self.xs[c.column as usize],
-            y: self.ys[c.row as usize],
-        })
+        Some(c.point(self.xs, self.ys))
     }
 }
 

@@ -1,10 +1,10 @@
 // What a search for a path comes to.
 use crate::request::Refusal;
 
-/// The least cost of a lawful path, or that there is none, or why none was looked for.
+/// What was found, or that there is no lawful path, or why none was looked for.
 #[derive(Clone, Copy)]
-pub enum Outcome<C> {
-    Cost(C),
+pub enum Outcome<F> {
+    Found(F),
     NoPath,
     Refused(Refusal),
 }

@@ -35,7 +35,7 @@ pub struct Request {
 #[derive(Clone, Copy)]
 pub enum Refusal {
     Improper,
-    ShortLists(usize),
+    ShortLists(u32),
     TooManyLines,
     ShortNodes(u32),
 }

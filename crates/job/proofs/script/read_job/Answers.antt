@@ -1,6 +1,6 @@
 use Rattle.std.proofs.Common.{◌≡◌, ℕ, ◌+◌, List, [], ◌∷◌, ◌++◌, length, drop, vec_items, sym, refl, ap, ◌∙◌, subst, append-nil, arith}
 use Rattle.job.specs.declared.setup.Setup.{Setup}
-use Rattle.job.specs.Text.{lines}
+use Rattle.words.specs.Text.{lines}
 use Rattle.job.specs.Said.{replied, said, calls_in, LineTold, Told}
 use Rattle.job.proofs.Tellings.{line_told, calls_in-++, said_more, told_more}
 use Rattle.job.proofs.script.read_job.Goals as goal

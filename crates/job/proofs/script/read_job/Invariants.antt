@@ -1,7 +1,7 @@
 use Rattle.std.proofs.Common.{◌≡◌, ◌+◌, ◌-◌, ◌≤◌, ◌++◌, length, drop, vec_items}
 use Rattle.job.specs.declared.setup.Setup.{Setup}
 use Rattle.job.specs.declared.setup.Stage.TheVariants.{Start}
-use Rattle.job.specs.Text.{lines}
+use Rattle.words.specs.Text.{lines}
 use Rattle.job.specs.Said.{said, calls_in, Told}
 use Rattle.job.proofs.script.read_job.Given as goal
 

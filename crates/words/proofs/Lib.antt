@@ -1,0 +1,5 @@
+pub mod Cuts
+pub mod Digits
+pub mod Lefts
+pub mod Numbered
+pub mod Scans
