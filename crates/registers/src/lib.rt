@@ -13,5 +13,5 @@ mod strip_register;
 
 pub use pieces::Pieces;
 pub use plain::PlainRegister;
-pub use register::Register;
+pub use register::{Full, Register};
 pub use strip::StripRegister;

@@ -4,7 +4,7 @@ ghost use Rattle.std.proofs.Math.Nat.{min-le_right};
 ghost use Rattle.registers.specs.Plains.{plain_places, plain_pieces, plain_few};
 
 use crate::pieces::Pieces;
-use crate::register::Register;
+use crate::register::{Full, Register};
 use crate::slots::{PLACES, append, compact, first_in_way, nth};
 use geometry::{Piece, Question};
 
@@ -69,14 +69,14 @@ impl<'a> Register for PlainRegister<'a> {
         self.places() - self.standing().len()
     }
 
-    fn add(&mut self, p: Piece) -> bool {
+    fn add(&mut self, p: Piece) -> Result<(), Full> {
         if self.standing().len() < self.places() {
             let count = self.count;
             append(self.slots, count, p);
             self.count = count + 1;
-            true
+            Ok(())
         } else {
-            false
+            Err(Full)
         }
     }
 

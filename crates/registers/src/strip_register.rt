@@ -4,7 +4,7 @@ ghost use Rattle.registers.specs.StripRegisters.{strip_places, strip_pieces, str
 
 use crate::chain::{LAYER_CHAINS, first_chain};
 use crate::pieces::Pieces;
-use crate::register::Register;
+use crate::register::{Full, Register};
 use crate::slots::nth;
 use crate::strip::StripRegister;
 use geometry::{Piece, Question};
@@ -45,12 +45,12 @@ impl<'a> Register for StripRegister<'a> {
         self.places() - self.count
     }
 
-    fn add(&mut self, p: Piece) -> bool {
+    fn add(&mut self, p: Piece) -> Result<(), Full> {
         if self.count < self.places() {
             self.push(p);
-            true
+            Ok(())
         } else {
-            false
+            Err(Full)
         }
     }
 

@@ -1,6 +1,6 @@
 // The plain register.
 use crate::script::{EMPTY, fills, takes_out, tells_what_is_in_the_way};
-use registers::{Pieces, PlainRegister, Register};
+use registers::{Full, Pieces, PlainRegister, Register};
 use std::test::Fail;
 
 #[test]
@@ -26,7 +26,7 @@ fn no_slots(rt: HostRuntime) {
     let mut slots = [EMPTY; 0];
     let mut r = PlainRegister::new(&mut slots);
     assert_eq!(rt; r.free(), 0);
-    assert!(rt; !r.add(EMPTY));
+    assert_eq!(rt; r.add(EMPTY), Err(Full));
     assert_eq!(rt; r.take_out(0), 0);
     assert_eq!(rt; r.count(), 0);
 }
@@ -37,10 +37,10 @@ fn no_more_than_4096(rt: HostRuntime) {
     let mut r = PlainRegister::new(&mut slots);
     assert_eq!(rt; r.free(), 4096);
     for _ in 0..4096 {
-        assert!(rt; r.add(EMPTY));
+        assert_eq!(rt; r.add(EMPTY), Ok(()));
     }
     assert_eq!(rt; r.free(), 0);
-    assert!(rt; !r.add(EMPTY));
+    assert_eq!(rt; r.add(EMPTY), Err(Full));
     assert_eq!(rt; r.count(), 4096);
     assert_eq!(rt; r.take_out(0), 4096);
     assert_eq!(rt; r.free(), 4096);

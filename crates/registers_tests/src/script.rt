@@ -1,6 +1,6 @@
 // What every register does, told by the answers alone.
 use geometry::{Mark, Piece, Question, Rect, Span};
-use registers::Register;
+use registers::{Full, Register};
 use std::process::Abort;
 use std::test::Fail;
 
@@ -68,10 +68,10 @@ pub fn fills<R: Register>(rt: &impl Abort, r: &mut R) -> Result<(), Fail> {
         jobs_are(rt, r, &[])?;
         assert_eq!(rt; r.free(), 4);
         for job in jobs {
-            assert!(rt; r.add(bar(job, 0, 1, Mark::Placed)));
+            assert_eq!(rt; r.add(bar(job, 0, 1, Mark::Placed)), Ok(()));
         }
         assert_eq!(rt; r.free(), 0);
-        assert!(rt; !r.add(bar(9, 0, 1, Mark::Laid)));
+        assert_eq!(rt; r.add(bar(9, 0, 1, Mark::Laid)), Err(Full));
         jobs_are(rt, r, &jobs)?;
         r.clear();
     }
@@ -89,7 +89,7 @@ struct Taken<'a> {
 /// Six places: the order of the rest is kept, and a number that nothing has takes nothing, also beyond 16 bits.
 pub fn takes_out<R: Register>(rt: &impl Abort, r: &mut R) -> Result<(), Fail> {
     for job in [7, 65535, 7, 1, 7, 2] {
-        assert!(rt; r.add(bar(job, 0, 1, Mark::Placed)));
+        assert_eq!(rt; r.add(bar(job, 0, 1, Mark::Placed)), Ok(()));
     }
     let calls = [
         Taken {
@@ -148,7 +148,7 @@ pub fn takes_out<R: Register>(rt: &impl Abort, r: &mut R) -> Result<(), Fail> {
         jobs_are(rt, r, call.left)?;
     }
     assert_eq!(rt; r.free(), 6);
-    assert!(rt; r.add(bar(8, 0, 1, Mark::Laid)));
+    assert_eq!(rt; r.add(bar(8, 0, 1, Mark::Laid)), Ok(()));
     jobs_are(rt, r, &[8])
 }
 
@@ -240,10 +240,13 @@ const ASKED: [Asked; 12] = [
 
 /// Four places and four pieces: absent exactly if none is in the way.
 pub fn tells_what_is_in_the_way<R: Register>(rt: &impl Abort, r: &mut R) {
-    assert!(rt; r.add(bar(1, 40, 50, Mark::Placed)));
-    assert!(rt; r.add(bar(2, 70, 80, Mark::Laid)));
-    assert!(rt; r.add(bar(3, -110, -90, Mark::Placed)));
-    assert!(rt; r.add(bar(4, -2147483648, -2147483640, Mark::Placed)));
+    assert_eq!(rt; r.add(bar(1, 40, 50, Mark::Placed)), Ok(()));
+    assert_eq!(rt; r.add(bar(2, 70, 80, Mark::Laid)), Ok(()));
+    assert_eq!(rt; r.add(bar(3, -110, -90, Mark::Placed)), Ok(()));
+    assert_eq!(rt;
+        r.add(bar(4, -2147483648, -2147483640, Mark::Placed)),
+        Ok(())
+    );
     for row in &ASKED {
         let job = r
             .in_the_way(&about(row.layer, row.x, row.laid))

@@ -78,8 +78,8 @@ pub fn agree<P: Register, R: Register>(rt: &impl Abort, p: &mut P, r: &mut R) {
     let mut d = Draws { last: 1 };
     for job in 0..128 {
         let piece = some_piece(&mut d, job % 16);
-        assert!(rt; p.add(piece));
-        assert!(rt; r.add(piece));
+        assert_eq!(rt; p.add(piece), Ok(()));
+        assert_eq!(rt; r.add(piece), Ok(()));
     }
     answer_alike(rt, p, r, &mut d);
     for job in [3, 0, 15] {

@@ -1,7 +1,7 @@
 // The strip register.
 use crate::script::{EMPTY, fills, takes_out, tells_what_is_in_the_way};
 use crate::spread::agree;
-use registers::{Pieces, PlainRegister, Register, StripRegister};
+use registers::{Full, Pieces, PlainRegister, Register, StripRegister};
 use std::test::Fail;
 
 /// Heights that cut y in different ways.
@@ -42,7 +42,7 @@ fn no_links(rt: HostRuntime) {
     let mut links = [0; 0];
     let mut r = StripRegister::new(&mut slots, &mut links, 60);
     assert_eq!(rt; r.free(), 0);
-    assert!(rt; !r.add(EMPTY));
+    assert_eq!(rt; r.add(EMPTY), Err(Full));
     assert_eq!(rt; r.take_out(0), 0);
     assert_eq!(rt; r.count(), 0);
 }
