@@ -9,5 +9,5 @@ mod order;
 mod sift;
 
 pub use distinct::{DistinctRefusal, drain_distinct, sorted_distinct};
-pub use heap::Queue;
+pub use heap::{Full, Queue};
 pub use order::Ranked;

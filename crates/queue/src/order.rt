@@ -3,6 +3,7 @@ ghost use Rattle.std.specs.Prelude.{◌≡◌, Bool, nat_lt};
 ghost use Rattle.queue.specs.Order.{Ranks, numbers_rank};
 
 /// Values of which any two compare; two of which neither is below the other tie.
+// Not `Ord`, by which values that tie would have to be `==`: frontier entries of one amount at two nodes tie.
 pub trait Ranked: Copy {
     ghost below: { Self → Self → Bool };
 
