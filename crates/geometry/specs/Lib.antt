@@ -1,3 +1,5 @@
+pub mod Axes
+pub mod Boxes
 pub mod Cases
 pub mod Classes
 pub mod Clearance
@@ -5,4 +7,5 @@ pub mod Laws
 pub mod Lists
 pub mod Nets
 pub mod Ranges
+pub mod Sizes
 pub mod Zones

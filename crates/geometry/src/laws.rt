@@ -8,27 +8,22 @@ use crate::question::Question;
 use crate::zone::in_way;
 
 /// The laws of clearance hold.
-fn clearance_laws() -> u8
+#[tactic(auto, using(crate::proofs::Clearances::laws))]
+fn clearance_laws()
     ensures { ClearanceLaws }
-{
-    0
-}
+{}
 
 /// The question whether a piece has room where it is.
 pub fn room_of(p: &Piece) -> Question
     ensures { result ≡ room_of p.now }
 {
-    let laid = match p.mark {
-        Mark::Placed => true,
-        Mark::Laid => false,
-    };
     Question {
         layer: p.layer,
         net: p.net,
         reach: 0,
         space: p.space,
         area: p.rect,
-        laid,
+        laid: p.mark == Mark::Placed,
     }
 }
 
@@ -38,6 +33,6 @@ pub fn keep_clear(a: &Piece, b: &Piece) -> bool
     ensures laws { ClearanceLaws }
 {
     // by these laws the question answers for clearance
-    let _laws = clearance_laws();
+    clearance_laws();
     !in_way(&room_of(b), a)
 }

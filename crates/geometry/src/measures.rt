@@ -5,27 +5,38 @@ ghost use Rattle.geometry.specs.Classes.{HasMeasures};
 
 use crate::class::Class;
 
-/// Whether a class may have these measures.
-fn may_have(half: u32, space: u32, pad: u32) -> bool
-    ensures { result ≡ class_measures half space pad }
-{
-    1 <= half && half <= 500 && space <= 1000 && half <= pad && pad <= 1000
+/// Measures as they are asked for a class: half the width of a wire, the space beside it, and half the size of a via's pad.
+#[derive(Clone, Copy, Debug, PartialEq, Eq, Hash)]
+pub struct Measures {
+    pub half: u32,
+    pub space: u32,
+    pub pad: u32,
+}
+
+impl Measures {
+    /// Whether a class may have these measures.
+    fn suit_a_class(&self) -> bool
+        ensures { result ≡ class_measures self.now.half self.now.space self.now.pad }
+    {
+        (1..=500).contains(&self.half)
+            && self.space <= 1000
+            && (self.half..=1000).contains(&self.pad)
+    }
 }
 
 impl Class {
     /// A class with these measures, if a class may have them.
-    pub fn new(half: u32, space: u32, pad: u32) -> Option<Class>
-        ensures answer { is_some result ≡ class_measures half space pad }
-        ensures measures { IfSome result (HasMeasures half space pad) }
+    pub fn new(measures: Measures) -> Option<Class>
+        ensures answer { is_some result ≡ class_measures measures.half measures.space measures.pad }
+        ensures measures { IfSome result (HasMeasures measures.half measures.space measures.pad) }
     {
-        if may_have(half, space, pad) {
-            Some(Class {
-                half: half as u16,
-                space: space as u16,
-                pad: pad as u16,
-            })
-        } else {
-            None
+        if !measures.suit_a_class() {
+            return None;
         }
+        Some(Class {
+            half: measures.half as u16,
+            space: measures.space as u16,
+            pad: measures.pad as u16,
+        })
     }
 }

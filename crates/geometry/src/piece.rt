@@ -2,14 +2,14 @@
 use crate::rect::Rect;
 
 /// Whether a piece was placed by itself, or laid as a part of a connection.
-#[derive(Clone, Copy)]
+#[derive(Clone, Copy, Debug, PartialEq, Eq, Hash)]
 pub enum Mark {
     Placed,
     Laid,
 }
 
 /// What stands on one layer. Net 0 marks a keep-out.
-#[derive(Clone, Copy)]
+#[derive(Clone, Copy, Debug, PartialEq, Eq, Hash)]
 pub struct Piece {
     pub layer: u8,
     pub rect: Rect,

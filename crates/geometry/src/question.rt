@@ -3,7 +3,7 @@ use crate::rect::Rect;
 
 /// The question whether a piece is in the way of `area`, at a reach and a space, for a net on a layer. If `laid` is set, only
 /// laid pieces count.
-#[derive(Clone, Copy)]
+#[derive(Clone, Copy, Debug, PartialEq, Eq, Hash)]
 pub struct Question {
     pub layer: u8,
     pub net: u8,

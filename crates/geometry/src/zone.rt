@@ -34,10 +34,7 @@ pub fn zone_meets(rect: &Rect, out: u32, area: &Rect) -> bool
 fn piece_counts(q: &Question, p: &Piece) -> bool
     ensures { result ≡ counts q.now p.now }
 {
-    match p.mark {
-        Mark::Placed => !q.laid,
-        Mark::Laid => true,
-    }
+    !q.laid || p.mark == Mark::Laid
 }
 
 /// Whether a piece is in the way of what a question asks for.

@@ -1,6 +1,8 @@
-//! Tests of zones, gaps, nets and classes.
+//! Tests of boxes, zones, gaps, nets and classes.
 #![tactic(auto)]
 
+#[cfg(test)]
+mod boxes;
 #[cfg(test)]
 mod measures;
 #[cfg(test)]

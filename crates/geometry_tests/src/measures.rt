@@ -1,97 +1,39 @@
 // Which classes there are, and which nets are different.
-use geometry::{Class, different_nets};
+use geometry::{Class, Measures, different_nets};
 
-struct Measures {
-    half: u32,
-    space: u32,
-    pad: u32,
-    made: bool,
-}
-
-const MEASURES: [Measures; 12] = [
-    Measures {
-        half: 1,
-        space: 0,
-        pad: 1,
-        made: true,
-    },
-    Measures {
-        half: 2,
-        space: 3,
-        pad: 3,
-        made: true,
-    },
-    Measures {
-        half: 500,
-        space: 1000,
-        pad: 1000,
-        made: true,
-    },
-    Measures {
-        half: 500,
-        space: 1000,
-        pad: 500,
-        made: true,
-    },
-    Measures {
-        half: 0,
-        space: 3,
-        pad: 3,
-        made: false,
-    },
-    Measures {
-        half: 501,
-        space: 3,
-        pad: 600,
-        made: false,
-    },
-    Measures {
-        half: 2,
-        space: 1001,
-        pad: 3,
-        made: false,
-    },
-    Measures {
-        half: 2,
-        space: 3,
-        pad: 1,
-        made: false,
-    },
-    Measures {
-        half: 2,
-        space: 3,
-        pad: 1001,
-        made: false,
-    },
-    Measures {
-        half: 65538,
-        space: 3,
-        pad: 65539,
-        made: false,
-    },
-    Measures {
-        half: 2,
-        space: 65539,
-        pad: 3,
-        made: false,
-    },
-    Measures {
-        half: 4294967295,
-        space: 4294967295,
-        pad: 4294967295,
-        made: false,
-    },
+/// Measures, half, space and pad, and whether a class may have them.
+const MEASURES: [(u32, u32, u32, bool); 12] = [
+    (1, 0, 1, true),
+    (2, 3, 3, true),
+    (500, 1000, 1000, true),
+    (500, 1000, 500, true),
+    (0, 3, 3, false),
+    (501, 3, 600, false),
+    (2, 1001, 3, false),
+    (2, 3, 1, false),
+    (2, 3, 1001, false),
+    (65538, 3, 65539, false),
+    (2, 65539, 3, false),
+    (4294967295, 4294967295, 4294967295, false),
 ];
 
 #[test]
 fn classes(rt: HostRuntime) {
-    for row in &MEASURES {
-        let class = Class::new(row.half, row.space, row.pad);
-        assert_eq!(rt; class.is_some(), row.made);
+    for (half, space, pad, made) in &MEASURES {
+        let measures = Measures {
+            half: *half,
+            space: *space,
+            pad: *pad,
+        };
+        let class = Class::new(measures);
+        assert_eq!(rt; class.is_some(), *made);
         if let Some(c) = class {
-            assert_eq!(rt; c.half as u32, row.half);
-            assert_eq!(rt; c.space as u32, row.space);
-            assert_eq!(rt; c.pad as u32, row.pad);
+            let has = Measures {
+                half: c.half as u32,
+                space: c.space as u32,
+                pad: c.pad as u32,
+            };
+            assert_eq!(rt; has, measures);
         }
     }
 }
@@ -107,7 +49,7 @@ const NETS: [(u8, u8, bool); 6] = [
 
 #[test]
 fn nets(rt: HostRuntime) {
-    for row in &NETS {
-        assert_eq!(rt; different_nets(row.0, row.1), row.2);
+    for (a, b, differ) in &NETS {
+        assert_eq!(rt; different_nets(*a, *b), *differ);
     }
 }

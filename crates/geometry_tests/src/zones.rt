@@ -1,46 +1,46 @@
 // Where zones end, and what they meet.
 use geometry::{Rect, Span, apart, zone_axis, zone_meets};
 
-struct Axis {
+struct AxisZone {
     span: Span,
     out: u32,
     low: i64,
     high: i64,
 }
 
-const AXES: [Axis; 9] = [
-    Axis {
+const AXES: [AxisZone; 9] = [
+    AxisZone {
         span: Span { low: 40, high: 50 },
         out: 5,
         low: 35,
         high: 55,
     },
-    Axis {
+    AxisZone {
         span: Span { low: 40, high: 50 },
         out: 6,
         low: 34,
         high: 56,
     },
-    Axis {
+    AxisZone {
         span: Span { low: 0, high: 0 },
         out: 0,
         low: 0,
         high: 0,
     },
-    Axis {
+    AxisZone {
         span: Span { low: -9, high: -4 },
         out: 0,
         low: -9,
         high: -4,
     },
-    Axis {
+    AxisZone {
         span: Span { low: -9, high: -4 },
         out: 7,
         low: -16,
         high: 3,
     },
     // the widest wire, and the widest pad
-    Axis {
+    AxisZone {
         span: Span {
             low: 0,
             high: 60000,
@@ -49,7 +49,7 @@ const AXES: [Axis; 9] = [
         low: -1500,
         high: 61500,
     },
-    Axis {
+    AxisZone {
         span: Span {
             low: 0,
             high: 60000,
@@ -58,7 +58,7 @@ const AXES: [Axis; 9] = [
         low: -2000,
         high: 62000,
     },
-    Axis {
+    AxisZone {
         span: Span {
             low: -2147483648,
             high: 2147483647,
@@ -67,7 +67,7 @@ const AXES: [Axis; 9] = [
         low: -2147485648,
         high: 2147485647,
     },
-    Axis {
+    AxisZone {
         span: Span {
             low: -2147483648,
             high: 2147483647,
@@ -81,9 +81,7 @@ const AXES: [Axis; 9] = [
 #[test]
 fn axes(rt: HostRuntime) {
     for row in &AXES {
-        let (low, high) = zone_axis(&row.span, row.out);
-        assert_eq!(rt; low, row.low);
-        assert_eq!(rt; high, row.high);
+        assert_eq!(rt; zone_axis(&row.span, row.out), (row.low, row.high));
     }
 }
 
@@ -211,16 +209,11 @@ const MET: [Met; 18] = [
     },
 ];
 
-fn rect(c: &[i32; 4]) -> Rect {
+fn rect(corners: &[i32; 4]) -> Rect {
+    let [x1, y1, x2, y2] = *corners;
     Rect {
-        x: Span {
-            low: c[0],
-            high: c[2],
-        },
-        y: Span {
-            low: c[1],
-            high: c[3],
-        },
+        x: Span { low: x1, high: x2 },
+        y: Span { low: y1, high: y2 },
     }
 }
 
