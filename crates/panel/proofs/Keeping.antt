@@ -5,7 +5,7 @@ use Rattle.geometry.specs.Lists.{all_of}
 use Rattle.geometry.specs.Zones.{none_in_way}
 use Rattle.panel.specs.declared.sheet.Sheet.{Sheet}
 use Rattle.panel.specs.Standing.{Standing, nothing_stands}
-use Rattle.panel.specs.Calls.{room_for}
+use Rattle.panel.specs.Calls.{room_for, well_placed}
 use Rattle.panel.specs.Runs.{Event, placing, lifting, next, told_from, Answered, RunFrom, PromiseFrom, RunsKeepThePromise}
 use Rattle.panel.proofs.Facts.{right}
 use Rattle.panel.proofs.Orders.{kept_in_order}
@@ -19,7 +19,7 @@ stable false h = absurd (h tt)
 pub next_in_order :
     (s : Sheet) (places : ℕ) (st : Standing) (e : Event) → Answered s places st e → T (in_order st.pieces) → T (in_order (next st e).pieces)
 next_in_order s places st (placing a (Ok job)) right h =
-    placed_in_order s a (st.jobs + 1) st.pieces right.0.1.1.0
+    placed_in_order s a (st.jobs + 1) st.pieces (stable (well_placed s a) right.0.1.1.0)
     (stable (none_in_way (room_for a) st.pieces) right.0.1.1.1.0) h
 next_in_order s places st (placing a (Err e)) right h = h
 next_in_order s places st (lifting job (Ok count)) right h = kept_in_order _ st.pieces h

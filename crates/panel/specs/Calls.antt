@@ -1,5 +1,5 @@
 -- What each call answers: its checks in their order, and what an accepted one hands back. Assumes nothing.
-use Rattle.std.specs.Prelude.{◌≡◌, ℕ, ◌+◌, ◌-◌, Bool, true, not, ◌||◌, T, List, [], ◌∷◌, length, Ok, Err, Result, ◌==◌, nat_lt}
+use Rattle.std.specs.Prelude.{◌≡◌, ℕ, ◌+◌, ◌-◌, Bool, true, not, ◌&&◌, T, List, [], ◌∷◌, length, Ok, Err, Result, ◌==◌, nat_le, nat_lt}
 use Rattle.geometry.specs.Lists.{any_of}
 use Rattle.geometry.specs.Ranges.{ranges}
 use Rattle.geometry.specs.Zones.{none_in_way, in_way_by}
@@ -17,17 +17,16 @@ use Rattle.panel.specs.Checks.{Check, check, check_with, NoCause, RefusedBy}
 abbrev pub room_for : Placement → Question
 room_for a = record { layer = a.layer; net = a.net; reach = 0; space = a.space; area = rect_of a; laid = true }
 
--- the causes of a placement's first checks
-abbrev pub off_layers : Sheet → ℕ → Bool
-off_layers s layer = not (ranges 1 s.layers layer)
+-- what a placement's first checks ask of it
+abbrev pub has_layer : Sheet → ℕ → Bool
+has_layer s layer = ranges 1 s.layers layer
 
-abbrev pub off_panel : Sheet → ℕ → ℕ → Bool
-off_panel s x y = nat_lt s.width x || nat_lt s.height y
+abbrev pub on_panel : Sheet → ℕ → ℕ → Bool
+on_panel s x y = nat_le x s.width && nat_le y s.height
 
-abbrev pub misplaced : Sheet → Placement → Bool
-misplaced s a =
-    (off_panel s a.x1 a.y1 || off_panel s a.x2 a.y2)
-    || (not (nat_lt a.x1 a.x2) || (not (nat_lt a.y1 a.y2) || nat_lt 1000 a.space))
+abbrev pub well_placed : Sheet → Placement → Bool
+well_placed s a =
+    on_panel s a.x1 a.y1 && on_panel s a.x2 a.y2 && nat_lt a.x1 a.x2 && nat_lt a.y1 a.y2 && nat_le a.space 1000
 
 -- A piece in the way is named by its job number; which, if there are several, is free.
 abbrev pub in_way_check : Standing → Placement → Check
@@ -39,9 +38,9 @@ in_way_check st a = record {
 
 abbrev pub place_checks : Sheet → ℕ → Standing → Placement → List Check
 place_checks s places st a =
-    check 2 (T (off_layers s a.layer))
+    check 2 (T (not (has_layer s a.layer)))
     ∷ check 4 (T (nat_lt 255 a.net))
-    ∷ check 5 (T (misplaced s a))
+    ∷ check 5 (T (not (well_placed s a)))
     ∷ in_way_check st a
     ∷ check_with 7 (T (nat_lt (places - length st.pieces) 1)) 1
     ∷ check 15 (T (st.jobs == 65535))

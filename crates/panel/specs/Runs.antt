@@ -4,14 +4,15 @@
 --     Run events           each answer is right where that stands which the events before it tell
 --     Promise events       different nets keep their clearance, from the opening on
 --     Driven               the calls that were made, with the answers given, are such a run
-use Rattle.std.specs.Prelude.{◌≡◌, ℕ, T, List, [], ◌∷◌, map, Ok, Err, Result}
+use Rattle.std.specs.Prelude.{◌≡◌, ℕ, T, List, [], ◌∷◌, map, Result}
+use Rattle.std.specs.Result.{result_map_both}
 use Rattle.geometry.specs.Clearance.{clear}
 use Rattle.panel.specs.declared.sheet.Sheet.{Sheet}
 use Rattle.panel.specs.declared.calls.Placement.{Placement}
 use Rattle.panel.specs.declared.calls.Call.{Call}
 use Rattle.panel.specs.declared.calls.Call.TheVariants.{Place, Lift}
-use Rattle.panel.specs.declared.calls.Answer.{Answer}
-use Rattle.panel.specs.declared.calls.Answer.TheVariants.{Placed, Lifted, Refused}
+use Rattle.panel.specs.declared.calls.Done.{Done}
+use Rattle.panel.specs.declared.calls.Done.TheVariants.{Placed, Lifted}
 use Rattle.panel.specs.declared.refusal.Refusal.{Refusal}
 use Rattle.panel.specs.Standing.{Standing, nothing_stands, after_place, after_lift}
 use Rattle.panel.specs.Calls.{PlaceAnswer, LiftAnswer}
@@ -64,21 +65,19 @@ abbrev pub call_of : Event → Call
 call_of (placing a answer) = Place a
 call_of (lifting job answer) = Lift job
 
-abbrev pub answer_of : Event → Answer
-answer_of (placing a (Ok job)) = Placed job
-answer_of (placing a (Err e)) = Refused e
-answer_of (lifting job (Ok count)) = Lifted count
-answer_of (lifting job (Err e)) = Refused e
+abbrev pub answer_of : Event → Result Done Refusal
+answer_of (placing a answer) = result_map_both Placed (λ e. e) answer
+answer_of (lifting job answer) = result_map_both Lifted (λ e. e) answer
 
 -- One call was made where st stands, and st' stands then.
-pub record Made (s : Sheet) (places : ℕ) (st : Standing) (call : Call) (answer : Answer) (st' : Standing) : Type 0 where
+pub record Made (s : Sheet) (places : ℕ) (st : Standing) (call : Call) (answer : Result Done Refusal) (st' : Standing) : Type 0 where
   pub event : Event
   pub of_call : call_of event ≡ call
   pub of_answer : answer_of event ≡ answer
   pub is_right : Answered s places st event
   pub stands : st' ≡ next st event
 
-pub record Driven (s : Sheet) (places : ℕ) (calls : List Call) (answers : List Answer) : Type 0 where
+pub record Driven (s : Sheet) (places : ℕ) (calls : List Call) (answers : List (Result Done Refusal)) : Type 0 where
   pub events : List Event
   pub of_calls : map call_of events ≡ calls
   pub of_answers : map answer_of events ≡ answers

@@ -2,7 +2,7 @@
 use crate::refusal::Refusal;
 
 /// A piece to be placed.
-#[derive(Clone, Copy)]
+#[derive(Clone, Copy, Debug, PartialEq, Eq)]
 pub struct Placement {
     pub layer: u32,
     pub x1: u32,
@@ -14,16 +14,18 @@ pub struct Placement {
 }
 
 /// A call on a panel.
-#[derive(Clone, Copy)]
+#[derive(Clone, Copy, Debug, PartialEq, Eq)]
 pub enum Call {
     Place(Placement),
     Lift(u32),
 }
 
-/// What a call is answered with: a job number, how many pieces went, or a refusal.
-#[derive(Clone, Copy)]
-pub enum Answer {
+/// What an accepted call did: it gave a job number, or took out so many pieces.
+#[derive(Clone, Copy, Debug, PartialEq, Eq)]
+pub enum Done {
     Placed(u16),
     Lifted(usize),
-    Refused(Refusal),
 }
+
+/// What a call is answered with.
+pub type Answer = Result<Done, Refusal>;

@@ -9,7 +9,7 @@ mod run;
 mod settings;
 mod sheet;
 
-pub use calls::{Answer, Call, Placement};
+pub use calls::{Answer, Call, Done, Placement};
 pub use panel::Panel;
 pub use refusal::{Level, Refusal, SheetRefusal, Shown};
 pub use run::{promise_over_runs, run_calls};

@@ -1,8 +1,7 @@
 // Placing a piece by itself, and taking out a job.
 ghost use Rattle.std.specs.Prelude.{◌≡◌, T};
 ghost use Rattle.geometry.specs.Clearance.{in_order};
-ghost use Rattle.geometry.specs.Ranges.{ranges};
-ghost use Rattle.panel.specs.Calls.{misplaced, PlaceAnswer, LiftAnswer, off_layers, off_panel, room_for};
+ghost use Rattle.panel.specs.Calls.{PlaceAnswer, LiftAnswer, has_layer, on_panel, well_placed, room_for};
 ghost use Rattle.panel.specs.Standing.{FitsPanel, rect_of, placed, after_place, after_lift};
 ghost use Rattle.panel.specs.Panels.{standing, SameSetup};
 
@@ -14,30 +13,30 @@ use costs::{Amount, CostKind};
 use geometry::{Mark, Piece, Question, Rect, Span};
 use registers::{Pieces, Register};
 
-/// The last job number that is ever given.
-const LAST_JOB: u16 = 65_535;
-
 impl Sheet {
-    // Whether the panel lacks a layer.
-    pub(crate) fn lacks_layer(&self, layer: u32) -> bool
-        ensures { result ≡ off_layers self.now layer }
+    // Whether the panel has a layer of this number.
+    fn has_layer(&self, layer: u32) -> bool
+        ensures { result ≡ has_layer self.now layer }
     {
-        !(1 <= layer && layer <= self.layers as u32)
+        (1..=self.layers as u32).contains(&layer)
     }
 
-    // Whether a point is off the panel.
-    pub(crate) fn lacks_point(&self, x: u32, y: u32) -> bool
-        ensures { result ≡ off_panel self.now x y }
+    // Whether a point is on the panel.
+    fn on_panel(&self, x: u32, y: u32) -> bool
+        ensures { result ≡ on_panel self.now x y }
     {
-        self.width < x || self.height < y
+        x <= self.width && y <= self.height
     }
 
-    // Whether a placement is off the panel, has no width or no height, or too large a space.
-    fn misplaces(&self, a: &Placement) -> bool
-        ensures { result ≡ misplaced self.now a.now }
+    // Whether a placement is on the panel, has a width and a height, and no larger a space than a piece may have.
+    fn well_placed(&self, a: &Placement) -> bool
+        ensures { result ≡ well_placed self.now a.now }
     {
-        (self.lacks_point(a.x1, a.y1) || self.lacks_point(a.x2, a.y2))
-            || (!(a.x1 < a.x2) || (!(a.y1 < a.y2) || 1000 < a.space))
+        self.on_panel(a.x1, a.y1)
+            && self.on_panel(a.x2, a.y2)
+            && a.x1 < a.x2
+            && a.y1 < a.y2
+            && a.space <= 1000
     }
 }
 
@@ -95,13 +94,13 @@ impl<K: CostKind, R: Register> Panel<K, R> {
         ensures clearance { T (in_order (R.Pieces.pieces self.old.register)) → T (in_order (R.Pieces.pieces self.new.register)) }
         ensures setup { SameSetup R.Register.places self.old self.new }
     {
-        if self.sheet.lacks_layer(a.layer) {
+        if !self.sheet.has_layer(a.layer) {
             return Err(Refusal::LayerRange);
         }
         if 255 < a.net {
             return Err(Refusal::NetRange);
         }
-        if self.sheet.misplaces(a) {
+        if !self.sheet.well_placed(a) {
             return Err(Refusal::OffPanel);
         }
         if let Some(job) = self.register.in_the_way(&room_for(a)) {
@@ -110,10 +109,7 @@ impl<K: CostKind, R: Register> Panel<K, R> {
         if self.register.free() < 1 {
             return Err(Refusal::TooFewPlaces(1));
         }
-        if self.last == LAST_JOB {
-            return Err(Refusal::JobsUsedUp);
-        }
-        let job = self.last + 1;
+        let job = self.last.checked_add(1).ok_or(Refusal::JobsUsedUp)?;
         self.register.add(piece_of(a, job));
         self.last = job;
         Ok(job)

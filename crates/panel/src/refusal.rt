@@ -1,11 +1,12 @@
 // Why a call or a setting is refused, and what is shown of it.
 ghost use Rattle.std.specs.Prelude.{◌≡◌};
+ghost use Rattle.panel.specs.declared.refusal.SheetRefusal.TheVariants.{Prices};
 ghost use Rattle.panel.specs.Refusals.{row, shown_of_call, shown_of_sheet};
 
 use costs::RowRefusal;
 
 /// Why a call on a panel is refused, with what is returned.
-#[derive(Clone, Copy, PartialEq, Debug)]
+#[derive(Clone, Copy, Debug, PartialEq, Eq)]
 pub enum Refusal {
     LayerRange,
     ClassUnset,
@@ -24,15 +25,23 @@ pub enum Refusal {
 }
 
 /// Why a setting of a sheet or of its price list is refused.
-#[derive(Clone, Copy, PartialEq, Debug)]
+#[derive(Clone, Copy, Debug, PartialEq)]
 pub enum SheetRefusal {
     Size,
     Prices(RowRefusal),
     Class,
 }
 
+impl From<RowRefusal> for SheetRefusal {
+    ghost from_gives = { λ e refusal. refusal ≡ Prices e };
+
+    fn from(e: RowRefusal) -> SheetRefusal {
+        SheetRefusal::Prices(e)
+    }
+}
+
 /// Where a refusal arises.
-#[derive(Clone, Copy, PartialEq, Debug)]
+#[derive(Clone, Copy, Debug, PartialEq, Eq)]
 pub enum Level {
     Job,
     Sheet,
@@ -40,7 +49,7 @@ pub enum Level {
 }
 
 /// What is shown of a refusal: its number, its level and the number returned.
-#[derive(Clone, Copy, PartialEq, Debug)]
+#[derive(Clone, Copy, Debug, PartialEq, Eq)]
 pub struct Shown {
     pub number: u32,
     pub level: Level,

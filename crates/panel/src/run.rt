@@ -3,7 +3,7 @@ ghost use Rattle.std.specs.Prelude.{◌≡◌, IfOk};
 ghost use Rattle.panel.specs.Runs.{RunsKeepThePromise, Made, Driven};
 ghost use Rattle.panel.specs.Panels.{standing, SameSetup};
 
-use crate::calls::{Answer, Call};
+use crate::calls::{Answer, Call, Done};
 use crate::panel::Panel;
 use crate::sheet::Sheet;
 use costs::{Amount, CostKind};
@@ -16,25 +16,17 @@ impl<K: CostKind, R: Register> Panel<K, R> {
         ensures made { Made self.old.sheet (R.Register.places self.old.register) (standing R.Pieces.pieces self.old) call.now result (standing R.Pieces.pieces self.new) }
         ensures setup { SameSetup R.Register.places self.old self.new }
     {
-        match *call {
-            Call::Place(a) => match self.place(&a) {
-                Ok(job) => Answer::Placed(job),
-                Err(e) => Answer::Refused(e),
-            },
-            Call::Lift(job) => match self.lift(job) {
-                Ok(count) => Answer::Lifted(count),
-                Err(e) => Answer::Refused(e),
-            },
+        match call {
+            Call::Place(a) => self.place(a).map(Done::Placed),
+            Call::Lift(job) => self.lift(*job).map(Done::Lifted),
         }
     }
 }
 
 /// However a panel is used from its opening on, different nets keep their clearance: for every kind of cost and every register.
-pub fn promise_over_runs<K: CostKind, R: Register>() -> u8
+pub fn promise_over_runs<K: CostKind, R: Register>()
     ensures { (register : R) → RunsKeepThePromise (R.Register.places register) }
-{
-    0
-}
+{}
 
 /// Opens a panel, makes the calls, and gives back their answers.
 pub fn run_calls<K: CostKind, R: Register + Drop>(

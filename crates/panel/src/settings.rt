@@ -11,7 +11,7 @@ use geometry::Class;
 fn may_have_size(width: u32, height: u32, layers: u32) -> bool
     ensures { result ≡ panel_size width height layers }
 {
-    1 <= width && width <= 60_000 && 1 <= height && height <= 60_000 && 1 <= layers && layers <= 8
+    (1..=60_000).contains(&width) && (1..=60_000).contains(&height) && (1..=8).contains(&layers)
 }
 
 impl Sheet {
@@ -62,12 +62,10 @@ impl Sheet {
         ensures answer { result ≡ class_answer number half space pad }
         ensures sheet { MatchResult result (λ _. Reclassed self.old number half space pad self.new) (λ _. self.new ≡ self.old) }
     {
-        if number < 1 || 16 < number {
+        if !(1..=16).contains(&number) {
             return Err(SheetRefusal::Class);
         }
-        let Some(class) = Class::new(half, space, pad) else {
-            return Err(SheetRefusal::Class);
-        };
+        let class = Class::new(half, space, pad).ok_or(SheetRefusal::Class)?;
         self.classes[number as usize - 1] = Some(class);
         Ok(())
     }

@@ -1,5 +1,5 @@
 // What is shown of each refusal.
-use panel::{Level, Refusal, SheetRefusal};
+use panel::{Level, Refusal, SheetRefusal, Shown};
 
 /// A refusal of a call, its number, and what is returned.
 const OF_CALLS: [(Refusal, u32, u64); 18] = [
@@ -26,21 +26,13 @@ const OF_CALLS: [(Refusal, u32, u64); 18] = [
 #[test]
 fn refusals_of_calls(rt: HostRuntime) {
     for (refusal, number, returned) in &OF_CALLS {
-        let shown = refusal.shown();
-        assert_eq!(rt; shown.number, *number);
-        assert_eq!(rt; shown.level, Level::Panel);
-        assert_eq!(rt; shown.returned, *returned);
+        let shown = Shown::new(Level::Panel, *number, *returned);
+        assert_eq!(rt; refusal.shown(), shown);
     }
 }
 
 #[test]
 fn refusals_of_settings(rt: HostRuntime) {
-    let size = SheetRefusal::Size.shown();
-    assert_eq!(rt; size.number, 1);
-    assert_eq!(rt; size.level, Level::Sheet);
-    assert_eq!(rt; size.returned, 0);
-    let class = SheetRefusal::Class.shown();
-    assert_eq!(rt; class.number, 3);
-    assert_eq!(rt; class.level, Level::Sheet);
-    assert_eq!(rt; class.returned, 0);
+    assert_eq!(rt; SheetRefusal::Size.shown(), Shown::new(Level::Sheet, 1, 0));
+    assert_eq!(rt; SheetRefusal::Class.shown(), Shown::new(Level::Sheet, 3, 0));
 }

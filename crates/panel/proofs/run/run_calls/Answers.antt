@@ -1,8 +1,9 @@
-use Rattle.std.proofs.Common.{◌≡◌, ℕ, List, [], ◌∷◌, ◌++◌, get_or, take, vec_items, sym, refl, ◌∙◌, subst}
+use Rattle.std.proofs.Common.{◌≡◌, ℕ, List, [], ◌∷◌, ◌++◌, get_or, take, vec_items, sym, refl, ◌∙◌, subst, Result}
 use Rattle.std.proofs.lemmas.List.{take_more, take_all}
 use Rattle.panel.specs.declared.calls.Call.{Call}
 use Rattle.panel.specs.declared.calls.Call.TheVariants.{Place}
-use Rattle.panel.specs.declared.calls.Answer.{Answer}
+use Rattle.panel.specs.declared.calls.Done.{Done}
+use Rattle.panel.specs.declared.refusal.Refusal.{Refusal}
 use Rattle.panel.specs.declared.sheet.Sheet.{Sheet}
 use Rattle.panel.specs.Standing.{Standing, nothing_stands}
 use Rattle.panel.specs.Panels.{standing}
@@ -44,7 +45,7 @@ loop-call-preserved g c =
 pub returns : goal.returns
 returns g c =
     let calls : List Call = c.args.calls.now in
-    let answers : List Answer = vec_items c.loop-call.answers in
+    let answers : List (Result Done Refusal) = vec_items c.loop-call.answers in
     let st : Standing = standing g.R.Pieces.pieces c.loop-call.panel in
     let all : take c.loop-call.call-index calls ≡ calls = take_all c.loop-call.call-index calls c.loop-call-test.false in
     subst (λ s. Driven s (g.R.Register.places c.args.register) calls answers) c.open-panel.ensures.sheet

@@ -5,7 +5,7 @@ use Rattle.geometry.specs.Zones.{none_in_way, in_way_by}
 use Rattle.geometry.specs.declared.piece.Piece.{Piece}
 use Rattle.registers.specs.Standing.{appended_if}
 use Rattle.panel.specs.Standing.{placed}
-use Rattle.panel.specs.Calls.{misplaced, room_for}
+use Rattle.panel.specs.Calls.{well_placed, room_for}
 use Rattle.panel.proofs.Placing.{placed_in_order, blocked}
 use Rattle.panel.proofs.panel.Panel.place.Goals as goal
 
@@ -24,13 +24,14 @@ returns-in-Some g c =
 pub returns : goal.returns
 returns g c =
     let ps : List Piece = g.R.Pieces.pieces c.args.self.now.register in
+    let next : c.in_ok-job.job ≡ c.args.self.now.last + 1 = search rules in
     let piece : Piece = placed c.args.a.now (c.args.self.now.last + 1) in
     let room : T (none_in_way (room_for c.args.a.now) ps) =
     subst (λ q. T (none_in_way q ps)) c.room_for.ensures c.in_default.ensures in
     let added : c.add.result ≡ true = c.add.ensures.answer ∙ lt-ltb (length ps) _ (omega (arith, c.free.ensures)) in
     let stand : g.R.Pieces.pieces c.add.new.self ≡ ps ++ (piece ∷ []) =
-    c.add.ensures.stands ∙ (ap (λ r. appended_if r c.piece_of.result ps) added ∙ ap (λ p. ps ++ (p ∷ [])) c.piece_of.ensures) in
-    let well : T (misplaced c.args.self.now.sheet c.args.a.now) → ⊥ = search rules in
+    c.add.ensures.stands ∙ (ap (λ r. appended_if r c.piece_of.result ps) added ∙ (ap (λ p. ps ++ (p ∷ [])) c.piece_of.ensures ∙ ap (λ job. ps ++ (placed c.args.a.now job ∷ [])) next)) in
+    let well : T (well_placed c.args.self.now.sheet c.args.a.now) = search rules in
     record {
       answer = search rules;
       stands = search rules;
