@@ -19,10 +19,10 @@ room_for a = record { layer = a.layer; net = a.net; reach = 0; space = a.space; 
 
 -- what a placement's first checks ask of it
 abbrev pub has_layer : Sheet → ℕ → Bool
-has_layer s layer = ranges 1 s.layers layer
+has_layer s layer = ranges 1 s.size.layers layer
 
 abbrev pub on_panel : Sheet → ℕ → ℕ → Bool
-on_panel s x y = nat_le x s.width && nat_le y s.height
+on_panel s x y = nat_le x s.size.width && nat_le y s.size.height
 
 abbrev pub well_placed : Sheet → Placement → Bool
 well_placed s a =

@@ -18,14 +18,14 @@ impl Sheet {
     fn has_layer(&self, layer: u32) -> bool
         ensures { result ≡ has_layer self.now layer }
     {
-        (1..=self.layers as u32).contains(&layer)
+        (1..=self.size.layers).contains(&layer)
     }
 
     // Whether a point is on the panel.
     fn on_panel(&self, x: u32, y: u32) -> bool
         ensures { result ≡ on_panel self.now x y }
     {
-        x <= self.width && y <= self.height
+        x <= self.size.width && y <= self.size.height
     }
 
     // Whether a placement is on the panel, has a width and a height, and no larger a space than a piece may have.
@@ -110,7 +110,7 @@ impl<K: CostKind, R: Register> Panel<K, R> {
             return Err(Refusal::TooFewPlaces(1));
         }
         let job = self.last.checked_add(1).ok_or(Refusal::JobsUsedUp)?;
-        self.register.add(piece_of(a, job));
+        self.register.add(piece_of(a, job)).unwrap();
         self.last = job;
         Ok(job)
     }

@@ -1,17 +1,19 @@
 // Setting up a sheet.
-ghost use Rattle.std.specs.Prelude.{◌≡◌, replicate, MatchResult};
+ghost use Rattle.std.specs.Prelude.{◌≡◌, MatchResult};
 ghost use Rattle.panel.specs.Sizes.{panel_size};
 ghost use Rattle.panel.specs.Sheets.{Blank, size_answer, class_answer, Resized, Reclassed};
 
 use crate::refusal::SheetRefusal;
 use crate::sheet::Sheet;
-use geometry::Class;
+use geometry::{Class, Measures, Size};
 
 // Whether a panel may have this size.
-fn may_have_size(width: u32, height: u32, layers: u32) -> bool
-    ensures { result ≡ panel_size width height layers }
+fn may_have_size(size: &Size) -> bool
+    ensures { result ≡ panel_size size.now }
 {
-    (1..=60_000).contains(&width) && (1..=60_000).contains(&height) && (1..=8).contains(&layers)
+    (1..=60_000).contains(&size.width)
+        && (1..=60_000).contains(&size.height)
+        && (1..=8).contains(&size.layers)
 }
 
 impl Sheet {
@@ -20,52 +22,43 @@ impl Sheet {
         ensures { Blank result }
     {
         Sheet {
-            width: 1,
-            height: 1,
-            layers: 1,
+            size: Size {
+                width: 1,
+                height: 1,
+                layers: 1,
+            },
             classes: [None; 16],
         }
     }
 
     /// The height of the panel.
     pub fn height(&self) -> u32
-        ensures { result ≡ self.now.height }
+        ensures { result ≡ self.now.size.height }
     {
-        self.height
+        self.size.height
     }
 
     /// Sets the size, or refuses and leaves the sheet as it is.
-    pub fn set_size(&mut self, width: u32, height: u32, layers: u32) -> Result<(), SheetRefusal>
-        ensures answer { result ≡ size_answer width height layers }
-        ensures sheet { MatchResult result (λ _. Resized self.old width height layers self.new) (λ _. self.new ≡ self.old) }
+    pub fn set_size(&mut self, size: Size) -> Result<(), SheetRefusal>
+        ensures answer { result ≡ size_answer size }
+        ensures sheet { MatchResult result (λ _. Resized self.old size self.new) (λ _. self.new ≡ self.old) }
     {
-        if !may_have_size(width, height, layers) {
+        if !may_have_size(&size) {
             return Err(SheetRefusal::Size);
         }
-        *self = Sheet {
-            width,
-            height,
-            layers: layers as u8,
-            classes: self.classes,
-        };
+        self.size = size;
         Ok(())
     }
 
     /// Sets the class of a number, or refuses and leaves the sheet as it is.
-    pub fn set_class(
-        &mut self,
-        number: u32,
-        half: u32,
-        space: u32,
-        pad: u32,
-    ) -> Result<(), SheetRefusal>
-        ensures answer { result ≡ class_answer number half space pad }
-        ensures sheet { MatchResult result (λ _. Reclassed self.old number half space pad self.new) (λ _. self.new ≡ self.old) }
+    pub fn set_class(&mut self, number: u32, measures: Measures) -> Result<(), SheetRefusal>
+        ensures answer { result ≡ class_answer number measures }
+        ensures sheet { MatchResult result (λ _. Reclassed self.old number measures self.new) (λ _. self.new ≡ self.old) }
     {
         if !(1..=16).contains(&number) {
             return Err(SheetRefusal::Class);
         }
-        let class = Class::new(half, space, pad).ok_or(SheetRefusal::Class)?;
+        let class = Class::new(measures).ok_or(SheetRefusal::Class)?;
         self.classes[number as usize - 1] = Some(class);
         Ok(())
     }

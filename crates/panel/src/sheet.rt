@@ -2,14 +2,12 @@
 ghost use Rattle.std.specs.Prelude.{T};
 ghost use Rattle.panel.specs.Sizes.{panel_size};
 
-use geometry::Class;
+use geometry::{Class, Size};
 
-/// The size of a panel, its layers, and the classes 1 to 16, as far as they are set.
-#[derive(Drop)]
+/// The size of a panel, and the classes 1 to 16, as far as they are set. It is no copy of another: opening a panel uses it up.
+#[derive(Debug, PartialEq, Eq, Drop)]
 pub struct Sheet {
-    pub(crate) width: u32,
-    pub(crate) height: u32,
-    pub(crate) layers: u8,
+    pub(crate) size: Size,
     pub(crate) classes: [Option<Class>; 16],
-    ghost sized: { T (panel_size width height layers) },
+    ghost sized: { T (panel_size size) },
 }

@@ -1,7 +1,7 @@
 // Place and lift at the ends of 32 bits, without places, and until the job numbers are used up.
 use costs::{ByMoney, ByVias, PriceList};
-use geometry::{Mark, Piece, Rect, Span};
-use panel::{Placement, Refusal, Sheet};
+use geometry::{Mark, Piece, Rect, Size, Span};
+use panel::{Placement, Refusal, Sheet, SheetRefusal};
 use registers::{PlainRegister, Register};
 use std::process::Abort;
 use std::test::Fail;
@@ -89,9 +89,18 @@ fn placement(a: [u32; 7]) -> Placement {
 /// A sheet of 100 by 60 units with two layers.
 fn sheet(rt: &impl Abort) -> Result<Sheet, Fail> {
     let mut sheet = Sheet::new();
-    sheet.set_size(100, 60, 2)?;
-    assert!(rt; sheet.set_size(0, 60, 2).is_err());
-    assert!(rt; sheet.set_size(u32::MAX, 60, 2).is_err());
+    for (width, set) in [
+        (100, Ok(())),
+        (0, Err(SheetRefusal::Size)),
+        (u32::MAX, Err(SheetRefusal::Size)),
+    ] {
+        let size = Size {
+            width,
+            height: 60,
+            layers: 2,
+        };
+        assert_eq!(rt; sheet.set_size(size), set);
+    }
     Ok(sheet)
 }
 
@@ -130,8 +139,8 @@ fn opening_empties_the_register(rt: HostRuntime) -> Result<(), Fail> {
     let prices = PriceList::new();
     let mut slots = [LAID; 2];
     let mut register = PlainRegister::new(&mut slots);
-    assert!(rt; register.add(LAID));
-    assert!(rt; register.add(LAID));
+    register.add(LAID)?;
+    register.add(LAID)?;
     let mut panel = sheet(&rt)?.open(ByMoney { prices }, register);
     assert_eq!(rt; panel.lift(7), Err(Refusal::NoSuchJob));
     assert_eq!(rt; panel.place(&GOOD), Ok(1));

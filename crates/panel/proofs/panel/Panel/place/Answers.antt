@@ -1,4 +1,4 @@
-use Rattle.std.proofs.Common.{◌≡◌, ◌+◌, true, T, List, [], ◌∷◌, ◌++◌, length, sym, refl, ap, ◌∙◌, subst, inl, inr, arith, rules}
+use Rattle.std.proofs.Common.{◌≡◌, ◌+◌, true, T, List, [], ◌∷◌, ◌++◌, length, is_ok, sym, refl, ap, ◌∙◌, subst, inl, inr, arith, rules}
 use Rattle.std.proofs.lemmas.Bool.{lt-ltb}
 use Rattle.geometry.specs.Clearance.{in_order}
 use Rattle.geometry.specs.Zones.{none_in_way, in_way_by}
@@ -28,7 +28,7 @@ returns g c =
     let piece : Piece = placed c.args.a.now (c.args.self.now.last + 1) in
     let room : T (none_in_way (room_for c.args.a.now) ps) =
     subst (λ q. T (none_in_way q ps)) c.room_for.ensures c.in_default.ensures in
-    let added : c.add.result ≡ true = c.add.ensures.answer ∙ lt-ltb (length ps) _ (omega (arith, c.free.ensures)) in
+    let added : is_ok c.add.result ≡ true = c.add.ensures.answer ∙ lt-ltb (length ps) _ (omega (arith, c.free.ensures)) in
     let stand : g.R.Pieces.pieces c.add.new.self ≡ ps ++ (piece ∷ []) =
     c.add.ensures.stands ∙ (ap (λ r. appended_if r c.piece_of.result ps) added ∙ (ap (λ p. ps ++ (p ∷ [])) c.piece_of.ensures ∙ ap (λ job. ps ++ (placed c.args.a.now job ∷ [])) next)) in
     let well : T (well_placed c.args.self.now.sheet c.args.a.now) = search rules in

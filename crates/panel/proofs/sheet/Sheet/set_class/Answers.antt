@@ -3,9 +3,7 @@ use Rattle.panel.proofs.sheet.Sheet.set_class.Goals as goal
 
 pub returns-clause-sheet : goal.returns-clause-sheet
 returns-clause-sheet c = record {
-  width_is = refl;
-  height_is = refl;
-  layers_is = refl;
+  size_is = refl;
   class = c.in_ok-class.class;
   measures_is = search rules;
   classes_is = refl;
