@@ -1,10 +1,12 @@
 -- What is asked of amounts of cost and of prices: sums in which order does not matter, a total order that sums keep, and a
 -- bulk that bounds how large sums grow. Sums need not cancel, and a step may be free. Assumes nothing.
 --   Sums, Laws    the meanings of amounts, and what holds of them
---   Prices        what a step costs on each layer
+--   Prices        what a step costs on each layer; step_price, along an axis
 --   Tariff        sums and prices, both in meanings
 --   times s k a   a taken k times
 use Rattle.std.specs.Prelude.{◌≡◌, ℕ, zero, suc, ◌+◌, ◌≤◌, Bool, T, ◌⊎◌}
+use Rattle.geometry.specs.declared.axis.Axis.{Axis}
+use Rattle.geometry.specs.declared.axis.Axis.TheVariants.{X, Y}
 
 -- M is what amounts mean, one or more whole numbers without a ceiling
 pub record Sums (M : Type 0) : Type 0 where
@@ -36,6 +38,11 @@ pub record Prices (C : Type 0) : Type 0 where
   pub x : ℕ → C
   pub y : ℕ → C
   pub via : ℕ → C
+
+-- of a unit step along an axis
+abbrev pub step_price : {C : Type 0} → Axis → Prices C → ℕ → C
+step_price X p l = p.x l
+step_price Y p l = p.y l
 
 -- sums, and prices that are meanings themselves
 pub record Tariff (M : Type 0) : Type 0 where

@@ -3,6 +3,5 @@ pub mod Rows
 pub mod Money
 pub mod Vias
 pub mod Maximum
-pub mod Orders
 pub mod Lawful
 pub mod Cases

@@ -1,12 +1,12 @@
 -- Sums of money, and the prices in money that a price list gives. Assumes nothing.
-use Rattle.std.specs.Prelude.{ℕ, ◌+◌, min, leb}
+use Rattle.std.specs.Prelude.{ℕ, ◌+◌, min, nat_le}
 use Rattle.costs.specs.declared.money.Money.{Money}
 use Rattle.costs.specs.declared.prices.PriceList.{PriceList}
 use Rattle.costs.specs.Amounts.{Sums, Prices}
 use Rattle.costs.specs.Rows.{row_of}
 
 abbrev pub money : Sums ℕ
-money = record { nothing = 0; plus = ◌+◌; leq = leb; bulk = λ n. n }
+money = record { nothing = 0; plus = ◌+◌; leq = nat_le; bulk = λ n. n }
 
 -- what 16 bits hold of a price: the price itself, since a row has no greater one
 abbrev pub narrow : ℕ → ℕ

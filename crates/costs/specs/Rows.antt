@@ -1,10 +1,13 @@
 -- What a price list holds, and what setting a row answers and leaves. Assumes nothing.
 --   blank, blank_list   no prices: what an unset row holds, and a list of such rows
+--   along a r           the price of a unit step along an axis, by a row
 --   row_at, row_of      the row of a layer: absent, or blank, where there is no such layer
 --   row_answer          what setting a row answers
 --   rows_after          the list once a row was set or refused
 use Rattle.std.specs.Prelude.{ℕ, ◌-◌, Bool, cond, ◌&&◌, replicate, Some, None, Ok, Err, Option, Result, nat_le, slice_index_or, slice_set}
 use Rattle.std.specs.Option.{unwrap_or}
+use Rattle.geometry.specs.declared.axis.Axis.{Axis}
+use Rattle.geometry.specs.declared.axis.Axis.TheVariants.{X, Y}
 use Rattle.costs.specs.declared.prices.Row.{Row}
 use Rattle.costs.specs.declared.prices.PriceList.{PriceList}
 use Rattle.costs.specs.declared.prices.RowRefusal.{RowRefusal}
@@ -15,6 +18,10 @@ blank = record { u = 0; v = 0; t = 0 }
 
 abbrev pub blank_list : PriceList
 blank_list = record { rows = replicate 8 blank }
+
+abbrev pub along : Axis → Row → ℕ
+along X r = r.u
+along Y r = r.v
 
 -- layers are counted from 1, and the row of layer 1 stands first
 abbrev pub has_row : ℕ → Bool

@@ -2,7 +2,8 @@
 ghost use Rattle.std.specs.Prelude.{◌≡◌, ◌+◌, ◌^◌, ◌<◌};
 ghost use Rattle.costs.specs.Amounts.{Sums, Laws};
 
-/// An amount of cost, which stands for a meaning without a ceiling.
+/// An amount of cost, which stands for a meaning without a ceiling. Its order is `at_most` and no bound `Ord`, which would ask
+/// for a whole order and an equality of each kind.
 pub trait Amount: Copy {
     ghost Meaning: { Type 0 };
 

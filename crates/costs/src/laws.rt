@@ -3,8 +3,7 @@ ghost use Rattle.costs.specs.Amounts.{Laws};
 ghost use Rattle.costs.specs.Maximum.{maximum};
 
 /// The greater of two numbers is a sum by the laws: sums need not cancel, nor grow.
-pub fn maximum_keeps_the_laws() -> u8
+#[tactic(auto, using(crate::specs::Lawful::maximum_laws))]
+pub fn maximum_keeps_the_laws()
     ensures { Laws maximum }
-{
-    0
-}
+{}

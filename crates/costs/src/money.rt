@@ -7,9 +7,10 @@ ghost use Rattle.std.proofs.Common.{rules};
 use crate::amount::Amount;
 use crate::kind::CostKind;
 use crate::prices::PriceList;
+use geometry::Axis;
 
 /// An amount of money.
-#[derive(Clone, Copy)]
+#[derive(Clone, Copy, Debug, PartialEq, Eq, PartialOrd, Ord, Default)]
 pub struct Money {
     pub units: u64,
 }
@@ -24,7 +25,7 @@ impl Amount for Money {
     ghost laws = { money_laws };
 
     fn zero() -> Money {
-        Money { units: 0 }
+        Money::default()
     }
 
     fn sum(self, other: Money) -> Money {
@@ -34,12 +35,12 @@ impl Amount for Money {
     }
 
     fn at_most(&self, other: &Money) -> bool {
-        self.units <= other.units
+        self <= other
     }
 }
 
 /// Steps and vias cost what the list says.
-#[derive(Clone, Copy)]
+#[derive(Clone, Copy, Debug, PartialEq, Eq)]
 pub struct ByMoney {
     pub prices: PriceList,
 }
@@ -49,21 +50,13 @@ impl CostKind for ByMoney {
 
     ghost prices = { λ k. money_prices k.prices };
 
-    ghost x_bulk = { Prim.search rules };
-
-    ghost y_bulk = { Prim.search rules };
+    ghost step_bulk = { Prim.search rules };
 
     ghost via_bulk = { Prim.search rules };
 
-    fn step_x(&self, layer: u8) -> Money {
+    fn step(&self, axis: Axis, layer: u8) -> Money {
         Money {
-            units: self.prices.row_or_blank(layer).u as u64,
-        }
-    }
-
-    fn step_y(&self, layer: u8) -> Money {
-        Money {
-            units: self.prices.row_or_blank(layer).v as u64,
+            units: self.prices.row_or_blank(layer).along(axis) as u64,
         }
     }
 

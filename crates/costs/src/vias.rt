@@ -7,9 +7,10 @@ ghost use Rattle.std.proofs.Common.{rules};
 use crate::amount::Amount;
 use crate::kind::CostKind;
 use crate::prices::PriceList;
+use geometry::Axis;
 
-/// A number of vias, and the money of the runs.
-#[derive(Clone, Copy)]
+/// A number of vias, and the money of the runs: ordered by vias first.
+#[derive(Clone, Copy, Debug, PartialEq, Eq, PartialOrd, Ord, Default)]
 pub struct ViasMoney {
     pub vias: u64,
     pub units: u64,
@@ -25,7 +26,7 @@ impl Amount for ViasMoney {
     ghost laws = { pair_laws };
 
     fn zero() -> ViasMoney {
-        ViasMoney { vias: 0, units: 0 }
+        ViasMoney::default()
     }
 
     fn sum(self, other: ViasMoney) -> ViasMoney {
@@ -36,12 +37,12 @@ impl Amount for ViasMoney {
     }
 
     fn at_most(&self, other: &ViasMoney) -> bool {
-        self.vias < other.vias || (self.vias == other.vias && self.units <= other.units)
+        self <= other
     }
 }
 
 /// A via counts one, whatever the list says of it; the runs cost what the list says.
-#[derive(Clone, Copy)]
+#[derive(Clone, Copy, Debug, PartialEq, Eq)]
 pub struct ByVias {
     pub prices: PriceList,
 }
@@ -51,23 +52,14 @@ impl CostKind for ByVias {
 
     ghost prices = { λ k. vias_prices k.prices };
 
-    ghost x_bulk = { Prim.search rules };
-
-    ghost y_bulk = { Prim.search rules };
+    ghost step_bulk = { Prim.search rules };
 
     ghost via_bulk = { Prim.search rules };
 
-    fn step_x(&self, layer: u8) -> ViasMoney {
+    fn step(&self, axis: Axis, layer: u8) -> ViasMoney {
         ViasMoney {
             vias: 0,
-            units: self.prices.row_or_blank(layer).u as u64,
-        }
-    }
-
-    fn step_y(&self, layer: u8) -> ViasMoney {
-        ViasMoney {
-            vias: 0,
-            units: self.prices.row_or_blank(layer).v as u64,
+            units: self.prices.row_or_blank(layer).along(axis) as u64,
         }
     }
 

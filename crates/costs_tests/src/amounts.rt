@@ -5,6 +5,7 @@ use costs::kind::CostKind;
 use costs::money::{ByMoney, Money};
 use costs::prices::PriceList;
 use costs::vias::{ByVias, ViasMoney};
+use geometry::Axis;
 use std::test::Fail;
 
 /// Factors, units and the product.
@@ -33,15 +34,17 @@ const COMPARISONS: [(u64, u64, u64, u64, bool); 7] = [
 #[test]
 fn multiples_are_products(rt: HostRuntime) {
     for (k, units, product) in &MULTIPLES {
-        assert_eq!(rt; times(Money { units: *units }, *k).units, *product);
-        let pair = times(
-            ViasMoney {
-                vias: 1,
-                units: *units,
-            },
-            *k,
-        );
-        assert_eq!(rt; (pair.vias, pair.units), (*k as u64, *product));
+        let money = times(Money { units: *units }, *k);
+        assert_eq!(rt; money, Money { units: *product });
+        let once = ViasMoney {
+            vias: 1,
+            units: *units,
+        };
+        let multiple = ViasMoney {
+            vias: *k as u64,
+            units: *product,
+        };
+        assert_eq!(rt; times(once, *k), multiple);
     }
 }
 
@@ -67,15 +70,15 @@ fn money_is_compared_and_added(rt: HostRuntime) {
     assert!(rt; five.at_most(&six));
     assert!(rt; five.at_most(&five));
     assert!(rt; !six.at_most(&five));
-    assert_eq!(rt; five.sum(six).units, 11);
-    assert_eq!(rt; five.sum(Money::zero()).units, 5);
+    assert_eq!(rt; five.sum(six), Money { units: 11 });
+    assert_eq!(rt; five.sum(Money::zero()), five);
 }
 
 /// 24 units on layer 1, 22 on layer 2 and 34 on layer 1, all along x, with a via after the first and the second.
 fn path<K: CostKind>(kind: K) -> K::Amount {
-    let first = times(kind.step_x(1), 24).sum(kind.via(1));
-    let second = times(kind.step_x(2), 22).sum(kind.via(1));
-    first.sum(second).sum(times(kind.step_x(1), 34))
+    let first = times(kind.step(Axis::X, 1), 24).sum(kind.via(1));
+    let second = times(kind.step(Axis::X, 2), 22).sum(kind.via(1));
+    first.sum(second).sum(times(kind.step(Axis::X, 1), 34))
 }
 
 #[test]
@@ -83,10 +86,13 @@ fn a_path_has_a_price_in_both_kinds(rt: HostRuntime) -> Result<(), Fail> {
     let mut prices = PriceList::new();
     prices.set(1, 1, 3, 10)?;
     prices.set(2, 3, 1, 0)?;
-    assert_eq!(rt; path(ByMoney { prices }).units, 144);
-    let pair = path(ByVias { prices });
-    assert_eq!(rt; (pair.vias, pair.units), (2, 124));
-    assert_eq!(rt; ByMoney { prices }.step_y(2).units, 1);
-    assert_eq!(rt; ByVias { prices }.step_y(1).units, 3);
+    assert_eq!(rt; path(ByMoney { prices }), Money { units: 144 });
+    let pair = ViasMoney {
+        vias: 2,
+        units: 124,
+    };
+    assert_eq!(rt; path(ByVias { prices }), pair);
+    assert_eq!(rt; ByMoney { prices }.step(Axis::Y, 2), Money { units: 1 });
+    assert_eq!(rt; ByVias { prices }.step(Axis::Y, 1).units, 3);
     Ok(())
 }

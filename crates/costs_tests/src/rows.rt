@@ -18,10 +18,8 @@ const SETTINGS: [(u32, u32, u32, u32, Result<(), RowRefusal>); 11] = [
 
 /// The prices of a layer as three numbers.
 fn prices(list: &PriceList, layer: u32) -> Option<(u32, u32, u32)> {
-    match list.row(layer) {
-        Some(row) => Some((row.u as u32, row.v as u32, row.t)),
-        None => None,
-    }
+    list.row(layer)
+        .map(|row| (row.u as u32, row.v as u32, row.t))
 }
 
 #[test]
@@ -43,11 +41,11 @@ fn rows_are_set_within_their_ranges_and_else_left(rt: HostRuntime) {
     for (layer, u, v, t, answer) in &SETTINGS {
         let mut list = set;
         assert_eq!(rt; list.set(*layer, *u, *v, *t), *answer);
-        let after = match *answer {
-            Ok(()) => Some((*u, *v, *t)),
-            Err(_) => prices(&set, *layer),
-        };
-        assert_eq!(rt; prices(&list, *layer), after);
+        if answer.is_ok() {
+            assert_eq!(rt; prices(&list, *layer), Some((*u, *v, *t)));
+        } else {
+            assert_eq!(rt; list, set);
+        }
         assert_eq!(rt; prices(&list, 2), Some((21, 22, 23)));
     }
 }
