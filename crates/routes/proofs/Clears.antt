@@ -6,11 +6,12 @@ use lib.Signed.{lt_z, le_z, lt_z_no}
 use Rattle.geometry.specs.declared.piece.Piece.{Piece}
 use Rattle.geometry.specs.declared.rect.Span.{Span}
 use Rattle.geometry.specs.declared.rect.Rect.{Rect}
+use Rattle.geometry.specs.Boxes.{box}
 use Rattle.geometry.specs.Clearance.{apart_along, apart}
 use Rattle.geometry.specs.Lists.{all_of}
 use Rattle.geometry.specs.Nets.{different_nets}
 use Rattle.geometry.specs.Zones.{widened, moved_out, zone, crosses, meets, is_laid, in_way}
-use Rattle.routes.specs.Routes.{along_x, along_y, to_layer, after, box}
+use Rattle.routes.specs.Routes.{along_x, along_y, to_layer, after}
 use Rattle.routes.specs.Rules.{ask, free, rules_of, clear_of}
 use Rattle.routes.specs.Claims.{RunKeepsClear, ViaKeepsClear, ClearPiecesKeepClear}
 use Rattle.routes.proofs.Bools.{left, right, both, either, first, second, refute, refuted}

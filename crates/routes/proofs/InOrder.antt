@@ -6,12 +6,13 @@ use Rattle.std.proofs.lemmas.Bool.{cases_lt, eq-eqb, ne_eqb}
 use Rattle.geometry.specs.declared.class.Class.{Class}
 use Rattle.geometry.specs.declared.piece.Piece.{Piece}
 use Rattle.geometry.specs.declared.point.Point.{Point}
+use Rattle.geometry.specs.Boxes.{box}
 use Rattle.geometry.specs.Clearance.{apart, proper, keep_clear, clear, in_order}
 use Rattle.geometry.specs.Lists.{all_of}
 use Rattle.geometry.specs.Nets.{different_nets}
 use Rattle.geometry.specs.Ranges.{ranges}
 use Rattle.geometry.specs.Zones.{moved_out, is_laid}
-use Rattle.routes.specs.Routes.{Move, along_x, along_y, to_layer, is_run, after, box, lawful_move, lawful, gap}
+use Rattle.routes.specs.Routes.{Move, along_x, along_y, to_layer, is_run, after, lawful_move, lawful, gap}
 use Rattle.routes.specs.Turns.{stops, points_of, whole_runs}
 use Rattle.routes.specs.Rules.{rules_of, clear_of}
 use Rattle.routes.specs.Laid.{laid, laid_run, laid_via, joint, laid_from, laid_along}

@@ -1,8 +1,9 @@
 -- What a route that passes a test says of its moves, and a lawful move of its end and its ground. Assumes nothing.
 use Rattle.std.proofs.Common.{ℕ, ◌≤◌, Bool, ◌&&◌, T, eqb, leb, List, ◌∷◌, le→leb, leb→le}
 use Rattle.geometry.specs.declared.point.Point.{Point}
+use Rattle.geometry.specs.Boxes.{box}
 use Rattle.geometry.specs.Ranges.{ranges}
-use Rattle.routes.specs.Routes.{Move, along_x, to_layer, after, every, gap, Rules, inside, box, on_free_ground, lawful_move}
+use Rattle.routes.specs.Routes.{Move, along_x, to_layer, after, every, gap, Rules, inside, on_free_ground, lawful_move}
 use Rattle.routes.proofs.Bools.{left, right, both}
 
 module _ (test : Point → Move → Bool) (p : Point) (m : Move) (r : List Move) where

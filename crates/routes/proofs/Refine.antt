@@ -3,9 +3,10 @@
 use Rattle.std.proofs.Common.{◌≡◌, ℕ, zero, suc, ◌+◌, ◌<◌, ◌≤◌, min, max, Bool, true, not, ◌&&◌, T, eqb, ltb, List, [], ◌∷◌, sym, refl, ap, ◌∙◌, subst, inl, inr, arith, eqb→eq, ltb→lt}
 use Rattle.std.proofs.lemmas.Bool.{cases_eq}
 use Rattle.geometry.specs.declared.point.Point.{Point}
+use Rattle.geometry.specs.Boxes.{span}
 use Rattle.geometry.specs.Lists.{mem}
 use Rattle.costs.specs.Amounts.{Tariff, times}
-use Rattle.routes.specs.Routes.{Move, along_x, along_y, to_layer, after, end, Rules, span, lawful_move, lawful, cost, gap}
+use Rattle.routes.specs.Routes.{Move, along_x, along_y, to_layer, after, end, Rules, lawful_move, lawful, cost, gap}
 use Rattle.routes.specs.Lines.{none_between, neighbours}
 use Rattle.routes.proofs.Bools.{left, right, both, refute}
 use Rattle.routes.proofs.Moves.{this_move, later_moves, more_moves, move_inside, move_free, move_lawful, put_inside, x_within}

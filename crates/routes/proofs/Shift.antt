@@ -4,8 +4,9 @@ use Rattle.std.proofs.lemmas.Bool.{cases_lt}
 use Rattle.geometry.specs.declared.point.Point.{Point}
 use Rattle.geometry.specs.declared.rect.Span.{Span}
 use Rattle.geometry.specs.declared.rect.Rect.{Rect}
+use Rattle.geometry.specs.Boxes.{span, box}
 use Rattle.costs.specs.Amounts.{Tariff}
-use Rattle.routes.specs.Routes.{Move, along_x, along_y, to_layer, after, end, Rules, box, span, lawful_move, lawful, cost, gap}
+use Rattle.routes.specs.Routes.{Move, along_x, along_y, to_layer, after, end, Rules, lawful_move, lawful, cost, gap}
 use Rattle.routes.proofs.Bools.{both}
 use Rattle.routes.proofs.Moves.{this_move, later_moves, move_inside, move_free, put_inside, via_next, via_here, via_there}
 use Rattle.routes.proofs.Sums.{Ordered, leq_refl, mono_both, times_more, mono_right}

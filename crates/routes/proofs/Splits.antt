@@ -4,8 +4,9 @@ use lib.Dec.{eqb_refl}
 use Rattle.std.proofs.lemmas.Bool.{lt-ltb, le-ltb, cases_eq, ne_eqb}
 use Rattle.geometry.specs.declared.point.Point.{Point}
 use Rattle.geometry.specs.declared.rect.Span.{Span}
+use Rattle.geometry.specs.Boxes.{span}
 use Rattle.costs.specs.Amounts.{Tariff, times}
-use Rattle.routes.specs.Routes.{Move, along_x, along_y, after, Rules, inside, span, lawful_move, goes, gap, price}
+use Rattle.routes.specs.Routes.{Move, along_x, along_y, after, Rules, inside, lawful_move, goes, gap, price}
 use Rattle.routes.specs.Turns.{heading, straight_on, turns}
 use Rattle.routes.proofs.Moves.{layer_inside, x_inside, y_inside, is_inside, move_inside, move_free, move_lawful}
 use Rattle.routes.proofs.Sums.{Ordered, times_add}

@@ -19,11 +19,12 @@ use Rattle.geometry.specs.declared.piece.Piece.{Piece}
 use Rattle.geometry.specs.declared.point.Point.{Point}
 use Rattle.geometry.specs.declared.rect.Span.{Span}
 use Rattle.geometry.specs.declared.rect.Rect.{Rect}
+use Rattle.geometry.specs.Boxes.{box}
 use Rattle.geometry.specs.Clearance.{proper, keep_clear, in_order}
 use Rattle.geometry.specs.Lists.{all_of}
 use Rattle.geometry.specs.Zones.{moved_out}
 use Rattle.costs.specs.Amounts.{Sums, Prices, Tariff}
-use Rattle.routes.specs.Routes.{Move, to_layer, is_run, after, end, every, Rules, inside, box, lawful_move, lawful, goes}
+use Rattle.routes.specs.Routes.{Move, to_layer, is_run, after, end, every, Rules, inside, lawful_move, lawful, goes}
 use Rattle.routes.specs.Routes.{Path, unit_steps, in_steps, cost, NoDearer, NoneCheaper, HasNoPath}
 use Rattle.routes.specs.Turns.{points_of, whole_runs, visited}
 use Rattle.routes.specs.Rules.{rules_of, clear_of}

@@ -5,8 +5,8 @@ use Rattle.geometry.specs.declared.piece.Mark.TheVariants.{Laid}
 use Rattle.geometry.specs.declared.piece.Piece.{Piece}
 use Rattle.geometry.specs.declared.point.Point.{Point}
 use Rattle.geometry.specs.declared.rect.Rect.{Rect}
+use Rattle.geometry.specs.Boxes.{box}
 use Rattle.geometry.specs.Zones.{moved_out}
-use Rattle.routes.specs.Routes.{box}
 
 -- a laid piece has the net of the request and the space of its class
 abbrev pub laid : Class → ℕ → ℕ → ℕ → Rect → Piece

@@ -1,16 +1,15 @@
 -- Routes on the layers of a panel: where they end, which are lawful and what they cost. Assumes nothing.
 --     after p m, end p r              where a move from a point ends, and a route
 --     Rules                           what a panel allows: its size, and which boxes are free for wires and for vias
---     box p q                         the closed box from a point to another
 --     lawful_move R p m               a move stays on the panel and on free ground
 --     lawful R p r                    each move of a route is lawful
 --     step p m, Path R s t r          a move by one unit; a lawful path from s to t, all of steps
 --     unit_steps p m, in_steps p r    a move, and a route, cut into steps
 --     price tf p m, cost tf p r       what a move costs, and a route
-use Rattle.std.specs.Prelude.{◌≡◌, ℕ, zero, suc, ◌+◌, ◌-◌, min, max, Bool, true, false, cond, not, ◌&&◌, T, List, [], ◌∷◌, ◌++◌, pos, ◌==◌, nat_le, nat_lt}
+use Rattle.std.specs.Prelude.{◌≡◌, ℕ, zero, suc, ◌+◌, ◌-◌, min, max, Bool, true, false, cond, not, ◌&&◌, T, List, [], ◌∷◌, ◌++◌, ◌==◌, nat_le, nat_lt}
 use Rattle.geometry.specs.declared.point.Point.{Point}
-use Rattle.geometry.specs.declared.rect.Span.{Span}
 use Rattle.geometry.specs.declared.rect.Rect.{Rect}
+use Rattle.geometry.specs.Boxes.{box}
 use Rattle.geometry.specs.Ranges.{ranges}
 use Rattle.costs.specs.Amounts.{Tariff, times}
 
@@ -54,13 +53,6 @@ pub record Rules : Type 0 where
 
 abbrev pub inside : Rules → Point → Bool
 inside R p = ranges 1 R.layers p.layer && (nat_le p.x R.width && nat_le p.y R.height)
-
--- the closed span between two coordinates, in either order
-abbrev pub span : ℕ → ℕ → Span
-span a b = record { low = pos (min a b); high = pos (max a b) }
-
-abbrev pub box : Point → Point → Rect
-box p q = record { x = span p.x q.x; y = span p.y q.y }
 
 -- A wire, ends included, is on free ground of its layer. A via joins a layer and the next, and is on free ground of both.
 abbrev pub on_free_ground : Rules → Point → Move → Bool

@@ -18,6 +18,7 @@ abbrev pub free : ℕ → ℕ → ℕ → List Piece → ℕ → Rect → Bool
 free net reach space pieces layer area = none_in_way (ask net reach space layer area) pieces
 
 -- Wires keep out of the zones at the reach of the half width, vias out of those at the reach of the pad's half size.
+-- Width, height and layers stay three numbers, since a search counts the layers of its own lattice.
 abbrev pub rules_of : ℕ → ℕ → ℕ → Class → ℕ → List Piece → Rules
 rules_of width height layers c net pieces = record {
   width = width;

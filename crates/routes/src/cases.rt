@@ -2,8 +2,6 @@
 ghost use Rattle.routes.specs.Cases.{WorkedRoutes};
 
 /// The worked cases hold.
-pub fn worked_routes_hold() -> u8
+pub fn worked_routes_hold()
     ensures { WorkedRoutes }
-{
-    0
-}
+{}

@@ -3,36 +3,26 @@ ghost use Rattle.routes.specs.Claims.{RunKeepsClear, ViaKeepsClear, ClearPiecesK
 ghost use Rattle.routes.specs.Claims.{LaidPiecesKeepOrder};
 
 /// A lawful run, moved out by the half width, has its clearance.
-pub fn runs_keep_clear() -> u8
+pub fn runs_keep_clear()
     ensures { RunKeepsClear }
-{
-    0
-}
+{}
 
 /// The squares of a lawful via have their clearance on both layers.
-pub fn vias_keep_clear() -> u8
+pub fn vias_keep_clear()
     ensures { ViaKeepsClear }
-{
-    0
-}
+{}
 
 /// Between the points of a lawful route lie lawful runs and vias.
-pub fn whole_runs_are_lawful() -> u8
+pub fn whole_runs_are_lawful()
     ensures { WholeRunsAreLawful }
-{
-    0
-}
+{}
 
 /// A piece that is clear of another keeps the clearance that the two owe one another.
-pub fn clear_pieces_keep_clear() -> u8
+pub fn clear_pieces_keep_clear()
     ensures { ClearPiecesKeepClear }
-{
-    0
-}
+{}
 
 /// The pieces that are laid along a lawful route leave the standing pieces in order.
-pub fn laid_pieces_keep_order() -> u8
+pub fn laid_pieces_keep_order()
     ensures { LaidPiecesKeepOrder }
-{
-    0
-}
+{}

@@ -5,43 +5,31 @@ ghost use Rattle.routes.specs.Claims.{LinesLieOnThePanel, LinesAreFew};
 use costs::Amount;
 
 /// Every lawful path has a lawful route along enough lines that costs no more, for every kind of amount.
-pub fn lines_suffice<C: Amount>() -> u8
+pub fn lines_suffice<C: Amount>()
     ensures { LinesSuffice C.sums }
-{
-    0
-}
+{}
 
 /// What no lawful route along enough lines costs less than, no lawful path costs less than.
-pub fn least_on_lines_is_least<C: Amount>() -> u8
+pub fn least_on_lines_is_least<C: Amount>()
     ensures { LeastOnLinesIsLeast C.sums }
-{
-    0
-}
+{}
 
 /// Where no route along enough lines is lawful, no path is.
-pub fn no_line_route_no_path() -> u8
+pub fn no_line_route_no_path()
     ensures { NoLineRouteNoPath }
-{
-    0
-}
+{}
 
 /// The lines of a request are enough for it.
-pub fn own_lines_are_enough() -> u8
+pub fn own_lines_are_enough()
     ensures { OwnLinesAreEnough }
-{
-    0
-}
+{}
 
 /// The lines of a request lie on the panel.
-pub fn lines_lie_on_the_panel() -> u8
+pub fn lines_lie_on_the_panel()
     ensures { LinesLieOnThePanel }
-{
-    0
-}
+{}
 
 /// The lines of a request along an axis are at most four for each piece, and two.
-pub fn lines_are_few() -> u8
+pub fn lines_are_few()
     ensures { LinesAreFew }
-{
-    0
-}
+{}

@@ -4,22 +4,16 @@ ghost use Rattle.routes.specs.Claims.{RoutesArePaths, LineRoutesAreUnitRoutes, S
 use costs::Amount;
 
 /// The steps of a lawful route are a lawful path of the same cost and with the same points.
-pub fn routes_are_paths<C: Amount>() -> u8
+pub fn routes_are_paths<C: Amount>()
     ensures { RoutesArePaths C.sums }
-{
-    0
-}
+{}
 
 /// Every lawful route along lines has a lawful path of the same cost and with the same points.
-pub fn line_routes_are_unit_routes<C: Amount>() -> u8
+pub fn line_routes_are_unit_routes<C: Amount>()
     ensures { LineRoutesAreUnitRoutes C.sums }
-{
-    0
-}
+{}
 
 /// A straight move is lawful exactly if its steps are.
-pub fn straight_runs() -> u8
+pub fn straight_runs()
     ensures { StraightRuns }
-{
-    0
-}
+{}
