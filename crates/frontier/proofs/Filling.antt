@@ -1,7 +1,7 @@
 -- Counting and writing the nodes that notes lead back. Assumes nothing.
-use Rattle.std.proofs.Common.{◌≡◌, ℕ, ◌+◌, ◌-◌, ◌<◌, ◌≤◌, List, [], ◌∷◌, reverse, length, get_or, drop, set, Some, sym, refl, ap, ◌∙◌, arith}
-use mathlib.Core.List.{reverse_aux}
-use Rattle.std.proofs.lemmas.List.{drop-set, drop_all}
+use Rattle.std.proofs.Common.{◌≡◌, ℕ, ◌+◌, ◌<◌, ◌≤◌, List, [], ◌∷◌, ◌++◌, length, get_or, take, set, Some, sym, refl, ap, ◌∙◌, arith, append_assoc, append-nil, length-set}
+use Rattle.std.specs.Option.{unwrap_or}
+use Rattle.std.proofs.lemmas.List.{take_all, take_more_set}
 use Rattle.frontier.specs.declared.note.Note.{Note}
 use Rattle.frontier.specs.declared.note.Note.TheVariants.{Unseen, Waiting, Settled}
 use Rattle.frontier.specs.Ways.{previous_node, before_of, Leads}
@@ -28,42 +28,41 @@ module _ {C : Type 0} (notes : List (Note C)) (from : ℕ) where
   LeadsOn u [] = Unit {0}
   LeadsOn u (x ∷ rest) = (x ≡ u) × Leads notes from x rest
 
-  -- the nodes `ahead` are still to be written, to the places before i
+  -- the nodes `ahead` are still to be written, to the places from i on
   pub record Filling (u i : ℕ) (way nodes : List ℕ) : Type 0 where
     pub ahead : List ℕ
-    pub long : length ahead ≡ i
+    pub long : i + length ahead ≡ length way
     pub leads : LeadsOn u ahead
-    pub whole : reverse_aux ahead (drop i way) ≡ reverse nodes
+    pub whole : take i way ++ ahead ≡ nodes
 
   pub fill_start : (to : ℕ) (back way : List ℕ) → Leads notes from to back → length way ≡ length back + 1
-      → Filling to (length way) way (to ∷ back)
-  fill_start to back way h long = record {
-    ahead = to ∷ back;
-    long = omega arith;
-    leads = (refl, h);
-    whole = ap (reverse_aux (to ∷ back)) (drop_all (length way) way (omega arith));
-  }
+      → Filling to 0 way (to ∷ back)
+  fill_start to back way h long = record { ahead = to ∷ back; long = omega arith; leads = (refl, h); whole = refl }
 
-  pub fill_step : (u u' i : ℕ) (way nodes : List ℕ) → 0 < i → i ≤ length way → ((p : ℕ) → before_of notes u ≡ Some p → u' ≡ p)
-      → Filling u i way nodes → Filling u' (i - 1) (set way (i - 1) u) nodes
-  fill_step u u' i way nodes some fits next F = go F.ahead F.long F.leads F.whole
+  pub fill_step : (u i : ℕ) (way nodes : List ℕ) → i < length way → Filling u i way nodes
+      → Filling (unwrap_or (before_of notes u) u) (i + 1) (set way i u) nodes
+  fill_step u i way nodes fits F = go F.ahead F.long F.leads F.whole
     where
-      on : (x : ℕ) (rest : List ℕ) → x ≡ u → Leads notes from x rest → LeadsOn u' rest
+      on : (x : ℕ) (rest : List ℕ) → x ≡ u → Leads notes from x rest → LeadsOn (unwrap_or (before_of notes u) u) rest
       on x [] e h = tt
-      on x (p ∷ rest) e h = (sym (next p (ap (before_of notes) (sym e) ∙ ap previous_node h.2)), h.3)
+      on x (p ∷ rest) e h =
+          let before : before_of notes u ≡ Some p = ap (before_of notes) (sym e) ∙ ap previous_node h.2 in
+          (sym (ap (λ o. unwrap_or o u) before), h.3)
 
-      go : (ahead : List ℕ) → length ahead ≡ i → LeadsOn u ahead → reverse_aux ahead (drop i way) ≡ reverse nodes
-          → Filling u' (i - 1) (set way (i - 1) u) nodes
+      go : (ahead : List ℕ) → i + length ahead ≡ length way → LeadsOn u ahead → take i way ++ ahead ≡ nodes
+          → Filling (unwrap_or (before_of notes u) u) (i + 1) (set way i u) nodes
       go [] l h w = absurd (omega arith)
-      go (x ∷ rest) l h w =
-          let back : i - 1 + 1 ≡ i = omega arith in
-          let wrote = drop-set way (i - 1) u (omega arith) ∙ ap (λ k. u ∷ drop k way) back
-          ∙ ap (λ y. y ∷ drop i way) (sym h.0) in
-          record { ahead = rest; long = omega arith; leads = on x rest h.0 h.1; whole = ap (reverse_aux rest) wrote ∙ w }
+      go (x ∷ rest) l h w = record {
+        ahead = rest;
+        long = omega (arith, length-set way i u);
+        leads = on x rest h.0 h.1;
+        whole = ap (λ ns. ns ++ rest) (take_more_set way i u fits) ∙ append_assoc (take i way) (u ∷ []) rest
+            ∙ ap (λ n. take i way ++ n ∷ rest) (sym h.0) ∙ w;
+      }
 
-  pub fill_end : (u i : ℕ) (way nodes : List ℕ) → i ≡ 0 → Filling u i way nodes → way ≡ reverse nodes
-  fill_end u i way nodes none F = go F.ahead F.long F.whole
+  pub fill_end : (u i : ℕ) (way nodes : List ℕ) → length way ≤ i → Filling u i way nodes → way ≡ nodes
+  fill_end u i way nodes all F = go F.ahead F.long F.whole
     where
-      go : (ahead : List ℕ) → length ahead ≡ i → reverse_aux ahead (drop i way) ≡ reverse nodes → way ≡ reverse nodes
-      go [] l w = sym (ap (λ k. drop k way) none) ∙ w
+      go : (ahead : List ℕ) → i + length ahead ≡ length way → take i way ++ ahead ≡ nodes → way ≡ nodes
+      go [] l w = sym (take_all i way all) ∙ sym (append-nil (take i way)) ∙ w
       go (x ∷ rest) l w = absurd (omega arith)

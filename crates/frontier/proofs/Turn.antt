@@ -1,7 +1,7 @@
 -- One turn of the search, over the notes and the entries. Assumes nothing.
 use Rattle.std.proofs.Common.{◌≡◌, ℕ, ◌+◌, ◌-◌, ◌*◌, ◌<◌, ◌⊎◌, List, [], ◌∷◌, length, get_or, set, sym, refl, ap, ◌∙◌, subst, inl, inr, arith, length-set, get_or-set_other, get_or-set_same}
 use Rattle.std.specs.List.Sorted.{IsPermutation}
-use Rattle.std.proofs.lemmas.List.{get_or_read}
+use Rattle.std.proofs.lemmas.List.{get_or_default}
 use Rattle.costs.specs.Amounts.{Laws}
 use Rattle.queue.specs.Order.{Least}
 use Rattle.frontier.specs.declared.entry.Entry.{Entry}
@@ -26,11 +26,10 @@ mark_waits means (Settled a q) b p h = let z : ◌≡◌ {A = ℕ} 0 1 = cc in a
 
 -- a note that the code reads and that does not wait
 pub not_waiting : {C M : Type 0} (means : C → M) (notes : List (Note C)) (v : ℕ) (note : Note C) → v < length notes
-    → note ≡ get_or notes v note
-    → ((b : C) (p : ℕ) → note ≡ Waiting b p → ⊥) → (b : M) (p : ℕ) → marks means notes v ≡ waits b p → ⊥
-not_waiting means notes v note l read old b p h =
+    → ((b : C) (p : ℕ) → get_or notes v note ≡ Waiting b p → ⊥) → (b : M) (p : ℕ) → marks means notes v ≡ waits b p → ⊥
+not_waiting means notes v note l old b p h =
     let k = mark_waits means (get_or notes v Unseen) b p h in
-    old k.0 p (get_or_read notes v note l read Unseen ∙ k.1)
+    old k.0 p (get_or_default notes v note Unseen l ∙ k.1)
 
 module _ {C M : Type 0} (g : Search M) (laws : Laws g.sums) (means : C → M) where
   -- the start is noted, and its entry put in

@@ -1,13 +1,13 @@
 -- Following the notes back to the start. Assumes nothing.
-use Rattle.std.proofs.Common.{◌≡◌, ℕ, ◌+◌, ◌<◌, List, [], ◌∷◌, ◌++◌, reverse, length, get_or, drop, Some, None, Option, sym, refl, ap, ◌∙◌, subst, ap₂, arith}
+use Rattle.std.proofs.Common.{◌≡◌, ℕ, ◌+◌, ◌<◌, List, [], ◌∷◌, ◌++◌, reverse, length, get_or, drop, Some, None, Option, MatchOption, IfSome, sym, refl, ap, ◌∙◌, subst, ap₂, arith}
 use native.Mathlib.Decide.{dec_lt}
 use Rattle.std.specs.List.{AllByRecursion}
 use Rattle.std.proofs.lemmas.List.{get_or_past, get_or_append_left}
 use Rattle.frontier.specs.declared.note.Note.{Note}
 use Rattle.frontier.specs.declared.note.Note.TheVariants.{Unseen, Waiting, Settled}
-use Rattle.frontier.specs.Routes.{Search}
+use Rattle.frontier.specs.Routes.{Search, HasNoRoute}
 use Rattle.frontier.specs.Front.{settled, Trail}
-use Rattle.frontier.specs.Held.{mark, marks, Traced}
+use Rattle.frontier.specs.Held.{mark, marks, Traced, Reached}
 use Rattle.frontier.specs.Ways.{Leads, Counted, Written}
 use Rattle.frontier.proofs.Trails.{trail_kept}
 
@@ -59,6 +59,13 @@ module _ {C : Type 0} (first rest : List (Note C)) where
       kept u x p h =
           let k = mark_settled means (get_or first u Unseen) x p h in
           ap (mark means) (get_or_append_left first rest Unseen u (settled_in first u k.0 p k.1)) ∙ h
+
+  -- what a search of the first notes found
+  pub found_front : {M : Type 0} (g : Search M) (means : C → M) (t : ℕ) (r : Option C)
+      → MatchOption r (HasNoRoute g t) (λ a. Reached g means first t (means a))
+      → IfSome r (λ a. Traced g means (first ++ rest) t (means a))
+  found_front g means t None h = tt
+  found_front g means t (Some a) h = traced_front g means t (means a) h.traced
 
 -- the notes lead one way
 pub leads_one : {C : Type 0} (notes : List (Note C)) (from : ℕ) (back other : List ℕ) (u : ℕ)

@@ -1,14 +1,14 @@
 -- What a graph is to a search. Assumes nothing.
 --     Shape             the nodes, their neighbours, and which moves between neighbours are free
 --     Bounded shape     neighbours are nodes, and the prices along any way are small enough to be added exactly
---     Toward .. r       r is the neighbour in a direction and the price of the move to it, or absent if there is none
+--     Toward .. r       r is the k-th neighbour and the price of the move to it, or absent if there is none
 use Rattle.std.specs.Prelude.{◌≡◌, ℕ, ◌*◌, ◌^◌, ◌<◌, ◌≤◌, Bool, Some, None, Option, MatchOption}
 use Rattle.costs.specs.Amounts.{Sums}
 
 pub record Shape : Type 0 where
   -- the nodes are the numbers below it
   pub size : ℕ
-  -- the neighbour of a node in each of the directions 0 to 5
+  -- the neighbours of a node, some of the 0th to the 5th
   pub next : ℕ → ℕ → Option ℕ
   -- whether the move from a node to a neighbour may be made
   pub free : ℕ → ℕ → Bool
@@ -19,7 +19,7 @@ pub record Bounded (shape : Shape) : Type 0 where
   pub inside : (u k w : ℕ) → u < shape.size → k < 6 → shape.next u k ≡ Some w → w < shape.size
   pub small : shape.dearest * shape.size < 2 ^ 62
 
--- `step` has the neighbour of u in the direction k, and an amount that means the price of the move
+-- `step` has the k-th neighbour of u, and an amount that means the price of the move
 pub record Priced {C M : Type 0} (sums : Sums M) (means : C → M) (shape : Shape) (price : ℕ → ℕ → M) (u k : ℕ)
     (step : ℕ × C) : Type 0 where
   pub next : shape.next u k ≡ Some step.0

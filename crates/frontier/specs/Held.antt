@@ -35,7 +35,7 @@ worth sums unseen m = true
 worth sums (waits b p) m = not (sums.leq b m)
 worth sums (settled b p) m = false
 
--- the moves from v to its neighbours from the kth direction on
+-- the moves from v to its neighbours from the k-th on
 abbrev pub Ahead : (ℕ → ℕ → Option ℕ) → ℕ → ℕ → ℕ → ℕ → Type 0
 Ahead next v k u w = (u ≡ v) × (j : ℕ) × (k ≤ j) × (j < 6) × (next v j ≡ Some w)
 
@@ -48,14 +48,14 @@ pub record Holds {C M : Type 0} (g : Search M) (means : C → M) (notes : List (
   pub long : length notes ≡ g.shape.size
   pub tally : length entries + left ≤ 1 + 6 * settled_below (marks means notes) g.shape.size
 
--- v is settled with the amount a, and its neighbours in the directions before the kth were looked at
+-- v is settled with the amount a, and its neighbours before the k-th were looked at
 pub record Looking {C M : Type 0} (g : Search M) (means : C → M) (v : ℕ) (a : M) (notes : List (Note C))
     (entries : List (Entry C)) (k : ℕ) : Type 0 where
   pub holds : Holds g means notes entries (Ahead g.shape.next v k) (6 - k)
   pub here : (p : ℕ) × (marks means notes v ≡ settled a p)
 
--- wherever the search started: v is settled with a, and its neighbours before the kth direction were looked at, then that in
--- the kth is looked at too
+-- wherever the search started: v is settled with a, and its neighbours before the k-th were looked at, then the
+-- k-th is looked at too
 abbrev pub LookedAt : {C M : Type 0} → Sums M → (C → M) → Shape → (ℕ → ℕ → M) → ℕ → M → ℕ
     → List (Note C) → List (Entry C) → List (Note C) → List (Entry C) → Type 0
 LookedAt sums means shape price v a k notes entries notes' entries' =

@@ -5,7 +5,7 @@ use costs::Amount;
 use queue::Ranked;
 
 /// A node that waits in the frontier, and the amount for which it can be reached.
-#[derive(Clone, Copy)]
+#[derive(Clone, Copy, Debug, PartialEq, Eq)]
 pub struct Entry<C> {
     pub amount: C,
     pub node: u32,

@@ -5,8 +5,8 @@ ghost use Rattle.frontier.specs.Graphs.{Shape, Bounded, Toward};
 
 use costs::Amount;
 
-/// A graph of nodes with at most six neighbours each, one in each direction from 0 to 5.
-/// What is asked of numbers that are no nodes, directions or neighbours is free.
+/// A graph of nodes with at most six neighbours each, some of the 0th to the 5th.
+/// What is answered for numbers that are no nodes or no neighbours, and for a k above 5, is free.
 pub trait Graph<C: Amount> {
     ghost shape: { Self → Shape };
 
@@ -19,11 +19,11 @@ pub trait Graph<C: Amount> {
     fn size(&self) -> u32
         ensures { result ≡ (shape self.now).size };
 
-    /// The neighbour of a node in a direction, and the price of the move to it.
-    fn toward(&self, node: u32, way: u32) -> Option<(u32, C)>
-        ensures { node < (shape self.now).size → way < 6
+    /// The k-th neighbour of a node, and the price of the move to it.
+    fn toward(&self, node: u32, k: u32) -> Option<(u32, C)>
+        ensures { node < (shape self.now).size → k < 6
             → Toward C.Amount.sums C.Amount.means (shape self.now)
-            (price C.Amount.sums C.Amount.means self.now) node way result };
+            (price C.Amount.sums C.Amount.means self.now) node k result };
 
     /// Whether the move from a node to a neighbour may be made.
     fn is_free(&self, node: u32, neighbour: u32) -> bool

@@ -1,14 +1,14 @@
 // The neighbours of a node that was settled are looked at.
-ghost use Rattle.std.specs.Prelude.{◌≡◌, ◌+◌, ◌*◌, ◌<◌, ◌≤◌, length};
-ghost use Rattle.queue.specs.Waiting.{waiting, room, Keeps};
+ghost use Rattle.std.specs.Prelude.{◌≡◌, ◌<◌};
+ghost use Rattle.queue.specs.Waiting.{waiting, Keeps};
 ghost use Rattle.frontier.specs.Entries.{cheaper};
 ghost use Rattle.frontier.specs.Held.{mark, worth, LookedAt, LookedRound, Stays};
 
 use crate::entry::Entry;
 use crate::graph::Graph;
 use crate::note::Note;
+use crate::search::Search;
 use costs::Amount;
-use queue::Queue;
 
 /// Whether an amount is worth noting at a node of that note.
 fn better<C: Amount>(note: Note<C>, sum: C) -> bool
@@ -21,66 +21,54 @@ fn better<C: Amount>(note: Note<C>, sum: C) -> bool
     }
 }
 
-/// Looks at the neighbour of a settled node in one direction: where the move to it gives a better
-/// amount and may be made, notes that and puts in an entry.
-fn look_at<C: Amount, G: Graph<C>>(
-    graph: &G,
-    notes: &mut [Note<C>],
-    queue: &mut Queue<'_, Entry<C>>,
-    node: u32,
-    amount: C,
-    way: u32,
-)
-    requires long { length notes.old ≡ (G.shape graph.now).size }
-    requires node { node < (G.shape graph.now).size }
-    requires way { way < 6 }
-    requires slots { 6 * (G.shape graph.now).size + 1 ≤ room queue.old }
-    ensures looking { LookedAt
-        C.sums C.means (G.shape graph.now) (G.price C.sums C.means graph.now) node (C.means amount) way
-        notes.old (waiting queue.old) notes.new (waiting queue.new) }
-    ensures stays { Stays (G.shape graph.now).size C.means
-        notes.old notes.new (waiting queue.old) (waiting queue.new) 1 }
-    ensures order { Keeps (cheaper C.means C.sums) queue.old queue.new }
-    ensures room { room queue.new ≡ room queue.old }
-{
-    let Some(step) = graph.toward(node, way) else {
-        return;
-    };
-    let (neighbour, price) = step;
-    let sum = amount.sum(price);
-    if !better(notes[neighbour as usize], sum) {
-        return;
+impl<C: Amount, G: Graph<C>> Search<'_, '_, '_, '_, C, G> {
+    /// Looks at the k-th neighbour of a settled node: where the move to it gives a better amount and may
+    /// be made, notes that and puts in an entry.
+    fn look_at(&mut self, node: u32, amount: C, k: u32)
+        requires node { node < (G.shape self.old.graph.now).size }
+        requires way { k < 6 }
+        ensures looking { LookedAt
+            C.sums C.means (G.shape self.old.graph.now) (G.price C.sums C.means self.old.graph.now) node (C.means amount) k
+            self.old.notes.now (waiting self.old.queue.now) self.new.notes.now (waiting self.new.queue.now) }
+        ensures stays { Stays (G.shape self.old.graph.now).size C.means
+            self.old.notes.now self.new.notes.now (waiting self.old.queue.now) (waiting self.new.queue.now) 1 }
+        ensures order { Keeps (cheaper C.means C.sums) self.old.queue.now self.new.queue.now }
+        ensures graph { self.new.graph ≡ self.old.graph }
+        ensures notes { self.new.notes.ghost_name ≡ self.old.notes.ghost_name }
+    {
+        let Some(step) = self.graph.toward(node, k) else {
+            return;
+        };
+        // a pattern for both at once loses what is known of the price
+        let (neighbour, price) = step;
+        let sum = amount.sum(price);
+        if !better(self.notes[neighbour as usize], sum) {
+            return;
+        }
+        if !self.graph.is_free(node, neighbour) {
+            return;
+        }
+        self.notes[neighbour as usize] = Note::Waiting(sum, node);
+        let _ = self.queue.put(Entry {
+            amount: sum,
+            node: neighbour,
+        });
     }
-    if !graph.is_free(node, neighbour) {
-        return;
-    }
-    notes[neighbour as usize] = Note::Waiting(sum, node);
-    queue.put(Entry {
-        amount: sum,
-        node: neighbour,
-    });
-}
 
-/// Looks at all neighbours of a settled node.
-pub(crate) fn look_round<C: Amount, G: Graph<C>>(
-    graph: &G,
-    notes: &mut [Note<C>],
-    queue: &mut Queue<'_, Entry<C>>,
-    node: u32,
-    amount: C,
-)
-    requires long { length notes.old ≡ (G.shape graph.now).size }
-    requires node { node < (G.shape graph.now).size }
-    requires slots { 6 * (G.shape graph.now).size + 1 ≤ room queue.old }
-    ensures holds { LookedRound
-        C.sums C.means (G.shape graph.now) (G.price C.sums C.means graph.now) node (C.means amount)
-        notes.old (waiting queue.old) notes.new (waiting queue.new) }
-    ensures stays { Stays (G.shape graph.now).size C.means
-        notes.old notes.new (waiting queue.old) (waiting queue.new) 6 }
-    ensures order { Keeps (cheaper C.means C.sums) queue.old queue.new }
-    ensures room { room queue.new ≡ room queue.old }
-{
-    for way in 0..6 {
-        look_at(graph, notes, queue, node, amount, way);
+    /// Looks at all neighbours of a settled node.
+    pub(crate) fn look_round(&mut self, node: u32, amount: C)
+        requires node { node < (G.shape self.old.graph.now).size }
+        ensures holds { LookedRound
+            C.sums C.means (G.shape self.old.graph.now) (G.price C.sums C.means self.old.graph.now) node (C.means amount)
+            self.old.notes.now (waiting self.old.queue.now) self.new.notes.now (waiting self.new.queue.now) }
+        ensures stays { Stays (G.shape self.old.graph.now).size C.means
+            self.old.notes.now self.new.notes.now (waiting self.old.queue.now) (waiting self.new.queue.now) 6 }
+        ensures order { Keeps (cheaper C.means C.sums) self.old.queue.now self.new.queue.now }
+        ensures graph { self.new.graph ≡ self.old.graph }
+        ensures notes { self.new.notes.ghost_name ≡ self.old.notes.ghost_name }
+    {
+        for k in 0..6 {
+            self.look_at(node, amount, k);
+        }
     }
 }

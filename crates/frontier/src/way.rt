@@ -8,14 +8,9 @@ use crate::note::Note;
 pub fn before<C: Copy>(notes: &[Note<C>], node: u32) -> Option<u32>
     ensures { result ≡ before_of notes.now node }
 {
-    if node as usize >= notes.len() {
-        return None;
-    }
-    let note = notes[node as usize];
-    match note {
-        Note::Unseen => None,
-        Note::Waiting(_best, _before) => None,
-        Note::Settled(_amount, before) => Some(before),
+    match notes.get(node as usize) {
+        Some(Note::Settled(_amount, before)) => Some(*before),
+        _ => None,
     }
 }
 
@@ -24,32 +19,26 @@ pub fn way_len<C: Copy>(notes: &[Note<C>], from: u32, to: u32) -> Option<usize>
     ensures { Counted notes.now from to result }
 {
     let mut node = to;
-    let mut count = 1;
-    while node != from {
-        if count >= notes.len() {
-            return None;
+    for count in 1..=notes.len().max(1) {
+        if node == from {
+            return Some(count);
         }
-        let Some(previous) = before(notes, node) else {
-            return None;
-        };
-        node = previous;
-        count += 1;
+        node = before(notes, node)?;
     }
-    Some(count)
+    None
 }
 
-/// Writes the nodes that the notes lead back from a node, from the last place to the first.
+/// Writes the nodes that the notes lead back from a node, the last of them first.
 fn fill_back<C: Copy>(notes: &[Note<C>], to: u32, way: &mut [u32])
     ensures { (from : ℕ) (back : List ℕ) → Leads notes.now from to back
         → length way.old ≡ length back + 1 → way.new ≡ reverse (to ∷ back) }
 {
     let mut node = to;
-    for i in (0..way.len()).rev() {
-        way[i] = node;
-        if let Some(previous) = before(notes, node) {
-            node = previous;
-        }
+    for slot in way.iter_mut() {
+        *slot = node;
+        node = before(notes, node).unwrap_or(node);
     }
+    way.reverse();
 }
 
 /// Writes the nodes of the way, from the start to the target, to the front of a list, and answers how
@@ -58,9 +47,7 @@ pub fn write_way<C: Copy>(notes: &[Note<C>], from: u32, to: u32, way: &mut [u32]
     ensures written { Written notes.now from to way.old way.new result }
     ensures unchanged { result ≡ None → way.new ≡ way.old }
 {
-    let Some(count) = way_len(notes, from, to) else {
-        return None;
-    };
+    let count = way_len(notes, from, to)?;
     if way.len() < count {
         return None;
     }
