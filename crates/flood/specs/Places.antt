@@ -4,27 +4,28 @@
 --     point_at g i        the point at a place
 --     steps_at g ps i     which steps from the point at a place are lawful where these pieces stand
 use Rattle.std.specs.Prelude.{ℕ, ◌+◌, ◌-◌, ◌*◌, ◌/◌, ◌%◌, cond, List, [], Some, None, Option}
+use Rattle.geometry.specs.declared.axis.Axis.TheVariants.{X, Y}
 use Rattle.geometry.specs.declared.piece.Piece.{Piece}
 use Rattle.geometry.specs.declared.point.Point.{Point}
-use Rattle.routes.specs.Routes.{along_x, along_y, to_layer, inside, lawful_move}
+use Rattle.routes.specs.Routes.{to_layer, inside, lawful_move}
 use Rattle.flood.specs.declared.ground.Ground.{Ground}
 use Rattle.flood.specs.declared.lawful.Steps.{Steps}
-use Rattle.flood.specs.Grounds.{ground_rules}
+use Rattle.flood.specs.Grounds.{ground_rules, next_along}
 
 abbrev pub ground_size : Ground → ℕ
-ground_size g = g.layers * (g.height + 1) * (g.width + 1)
+ground_size g = g.size.layers * (g.size.height + 1) * (g.size.width + 1)
 
 abbrev pub place_of : Ground → Point → ℕ
-place_of g p = ((p.layer - 1) * (g.height + 1) + p.y) * (g.width + 1) + p.x
+place_of g p = ((p.layer - 1) * (g.size.height + 1) + p.y) * (g.size.width + 1) + p.x
 
 abbrev pub place_known : Ground → Point → Option ℕ
 place_known g p = cond (inside (ground_rules g []) p) (Some (place_of g p)) None
 
 abbrev pub point_at : Ground → ℕ → Point
 point_at g i = record {
-  layer = i / (g.width + 1) / (g.height + 1) + 1;
-  x = i % (g.width + 1);
-  y = i / (g.width + 1) % (g.height + 1);
+  layer = i / (g.size.width + 1) / (g.size.height + 1) + 1;
+  x = i % (g.size.width + 1);
+  y = i / (g.size.width + 1) % (g.size.height + 1);
 }
 
 abbrev pub steps_at : Ground → List Piece → ℕ → Steps
@@ -32,7 +33,7 @@ steps_at g ps i =
     let p = point_at g i in
     record {
       layer = p.layer;
-      right = lawful_move (ground_rules g ps) p (along_x (p.x + 1));
-      up = lawful_move (ground_rules g ps) p (along_y (p.y + 1));
+      right = lawful_move (ground_rules g ps) p (next_along X p);
+      up = lawful_move (ground_rules g ps) p (next_along Y p);
       above = lawful_move (ground_rules g ps) p (to_layer (p.layer + 1));
     }

@@ -1,17 +1,15 @@
 // The ground that a request is asked on.
 ghost use Rattle.std.specs.Prelude.{◌≤◌};
 
-use geometry::Class;
+use geometry::{Class, Size};
 
 /// The size of a panel, at most 1,000 by 1,000 units and 8 layers, and the class and net of a request.
-#[derive(Clone, Copy)]
+#[derive(Clone, Copy, Debug, PartialEq, Eq)]
 pub struct Ground {
-    pub width: u32,
-    pub height: u32,
-    pub layers: u32,
+    pub size: Size,
     pub class: Class,
     pub net: u8,
-    ghost narrow: { width ≤ 1000 },
-    ghost low: { height ≤ 1000 },
-    ghost flat: { layers ≤ 8 },
+    ghost narrow: { size.width ≤ 1000 },
+    ghost low: { size.height ≤ 1000 },
+    ghost flat: { size.layers ≤ 8 },
 }

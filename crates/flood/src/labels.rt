@@ -1,72 +1,60 @@
 // Labels: for how much each point is known to be reached.
-use crate::lawful::Steps;
+ghost use Rattle.std.specs.Prelude.{◌<◌, length};
+
+use crate::lawful::Node;
 use costs::{Amount, CostKind};
+use geometry::Axis;
 
 /// Betters the label of one place by a step from another, and answers whether it did.
-fn better<C: Amount>(labels: &mut [Option<C>], from: usize, to: usize, price: C) -> bool {
-    if labels.len() <= from || labels.len() <= to {
-        return false;
-    }
-    let source = labels[from];
-    let Some(here) = source else {
+fn better<C: Amount>(nodes: &mut [Node<C>], from: usize, to: usize, price: C) -> bool {
+    let Some(here) = nodes.get(from).and_then(|node| node.label) else {
         return false;
     };
     let amount = here.sum(price);
-    let target = labels[to];
-    if let Some(old) = target {
-        if old.at_most(&amount) {
-            return false;
-        }
+    let Some(target) = nodes.get_mut(to) else {
+        return false;
+    };
+    if target.label.is_some_and(|old| old.at_most(&amount)) {
+        return false;
     }
-    labels[to] = Some(amount);
+    target.label = Some(amount);
     true
 }
 
 /// Betters the labels of two places by a step between them, either way, and answers whether one did.
-fn better_both<C: Amount>(labels: &mut [Option<C>], i: usize, j: usize, price: C) -> bool {
-    let ahead = better(labels, i, j, price);
-    let back = better(labels, j, i, price);
+fn better_both<C: Amount>(nodes: &mut [Node<C>], i: usize, j: usize, price: C) -> bool {
+    let ahead = better(nodes, i, j, price);
+    let back = better(nodes, j, i, price);
     ahead || back
 }
 
-/// How far apart the places of neighbouring points are, along y and from layer to layer.
+/// How labels are bettered: by a kind of cost, and by how far apart the places of neighbouring points are, along y and from
+/// layer to layer.
 #[derive(Clone, Copy)]
-pub(crate) struct Strides {
+pub(crate) struct Spread<K> {
+    pub kind: K,
     pub row: usize,
     pub plane: usize,
 }
 
-/// Betters labels by the lawful steps from a place to the next ones and back, and answers whether one did.
-pub(crate) fn better_round<K: CostKind>(
-    kind: K,
-    steps: Steps,
-    strides: Strides,
-    labels: &mut [Option<K::Amount>],
-    i: usize,
-) -> bool {
-    let mut changed = false;
-    if steps.right && better_both(labels, i, i.wrapping_add(1), kind.step_x(steps.layer)) {
-        changed = true;
-    }
-    if steps.up
-        && better_both(
-            labels,
-            i,
-            i.wrapping_add(strides.row),
-            kind.step_y(steps.layer),
-        )
+impl<K: CostKind> Spread<K> {
+    /// Betters labels by the lawful steps from a place to the next ones and back, and answers whether one did.
+    pub(crate) fn better_round(&self, nodes: &mut [Node<K::Amount>], i: usize) -> bool
+        requires { i < length nodes.old }
     {
-        changed = true;
+        let steps = nodes[i].steps;
+        let kind = self.kind;
+        let right = steps.right
+            && better_both(nodes, i, i.wrapping_add(1), kind.step(Axis::X, steps.layer));
+        let up = steps.up
+            && better_both(
+                nodes,
+                i,
+                i.wrapping_add(self.row),
+                kind.step(Axis::Y, steps.layer),
+            );
+        let above = steps.above
+            && better_both(nodes, i, i.wrapping_add(self.plane), kind.via(steps.layer));
+        right || up || above
     }
-    if steps.above
-        && better_both(
-            labels,
-            i,
-            i.wrapping_add(strides.plane),
-            kind.via(steps.layer),
-        )
-    {
-        changed = true;
-    }
-    changed
 }

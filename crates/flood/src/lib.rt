@@ -11,4 +11,4 @@ mod steps;
 mod table;
 
 pub use ground::Ground;
-pub use spread::{Flooded, flood};
+pub use spread::{FloodError, flood};

@@ -1,76 +1,65 @@
 // The flood: labels are bettered in sweeps over all points until nothing improves.
-ghost use Rattle.std.specs.Prelude.{◌≡◌, false, [], IfOk, vec_len};
+ghost use Rattle.std.specs.Prelude.{◌≡◌, ◌<◌, false, [], Ok, None, All, length};
+ghost use Rattle.std.specs.Iterator.{IsFinite, HoldsAlong};
 ghost use Rattle.routes.specs.Routes.{inside};
-ghost use Rattle.flood.specs.declared.spread.Flooded.TheVariants.{Unreached};
+ghost use Rattle.flood.specs.declared.spread.FloodError.TheVariants.{OutOfMemory};
 ghost use Rattle.flood.specs.Grounds.{ground_rules};
 
 use crate::ground::Ground;
-use crate::labels::{Strides, better_round};
-use crate::lawful::Steps;
-use costs::{Amount, CostKind};
+use crate::labels::Spread;
+use crate::lawful::Node;
+use costs::CostKind;
 use geometry::{Piece, Point};
 use std::alloc::{AllocError, Global};
 
-/// What a flood comes to: the amount for which the second terminal was reached, or that it was not, or that labels still
-/// improved when the sweeps were used up.
-#[derive(Clone, Copy)]
-pub enum Flooded<C> {
-    Reached(C),
-    Unreached,
+/// Why a flood gives no answer: want of memory, or labels that still improved when the sweeps were used up.
+#[derive(Clone, Copy, Debug, PartialEq, Eq)]
+pub enum FloodError {
+    OutOfMemory,
     Unsettled,
 }
 
-/// Labels of so many places, of which only one is reached, at no cost.
-fn first_labels<C: Amount>(
-    heap: Global,
-    n: usize,
-    from: usize,
-) -> Result<Vec<Option<C>>, AllocError>
-    ensures { IfOk result (λ v. vec_len v ≡ n) }
-{
-    let mut labels = Vec::new(heap);
-    for i in 0..n {
-        labels.push(if i == from { Some(C::zero()) } else { None })?;
+impl From<AllocError> for FloodError {
+    ghost from_gives = { λ _ e. e ≡ OutOfMemory };
+
+    fn from(_error: AllocError) -> FloodError {
+        FloodError::OutOfMemory
     }
-    Ok(labels)
 }
 
-/// Sweeps once over all places, ascending or descending, and answers whether a label improved.
-fn sweep<K: CostKind>(
-    kind: K,
-    steps: &[Steps],
-    strides: Strides,
-    labels: &mut [Option<K::Amount>],
-    ascending: bool,
-) -> bool {
-    let n = steps.len();
-    let mut changed = false;
-    for k in 0..n {
-        let i = if ascending { k } else { n - 1 - k };
-        if better_round(kind, steps[i], strides, labels, i) {
-            changed = true;
+impl<K: CostKind> Spread<K> {
+    /// Sweeps once over places in an order, and answers whether a label improved.
+    fn sweep<I: Iterator<Item = usize>>(&self, nodes: &mut [Node<K::Amount>], order: I) -> bool
+        requires can { I.can_next order }
+        requires ends { IsFinite (I.remaining order) }
+        requires inside { HoldsAlong I.next_gives order (All (λ i. i < length nodes.old)) }
+    {
+        let mut improved = false;
+        for i in order {
+            improved |= self.better_round(nodes, i);
         }
+        improved
     }
-    changed
-}
 
-/// Sweeps up and down in turn until nothing improves, at most once for each place, and answers whether that came.
-fn settle<K: CostKind>(
-    kind: K,
-    steps: &[Steps],
-    strides: Strides,
-    labels: &mut [Option<K::Amount>],
-) -> bool {
-    for k in 0..steps.len() {
-        if !sweep(kind, steps, strides, labels, k % 2 == 0) {
-            return true;
+    /// Sweeps up and down in turn until nothing improves, at most once for each place.
+    fn settle(&self, nodes: &mut [Node<K::Amount>]) -> Result<(), FloodError> {
+        let n = nodes.len();
+        for turn in 0..n {
+            let improved = if turn % 2 == 0 {
+                self.sweep(nodes, 0..n)
+            } else {
+                self.sweep(nodes, (0..n).rev())
+            };
+            if !improved {
+                return Ok(());
+            }
         }
+        Err(FloodError::Unsettled)
     }
-    false
 }
 
-/// Floods the unit grid from the first terminal of a request, and answers for how much the second was reached. A terminal off the
-/// panel is not reached; that an amount is a least cost is tested, not proved.
+/// Floods the unit grid from the first terminal of a request, and answers for how much the second was reached, if it was. A
+/// terminal off the panel is not reached; that an amount is a least cost is tested, not proved.
 pub fn flood<K: CostKind>(
     heap: Global,
     kind: K,
@@ -78,28 +67,23 @@ pub fn flood<K: CostKind>(
     pieces: &[Piece],
     first: &Point,
     second: &Point,
-) -> Result<Flooded<K::Amount>, AllocError>
-    ensures first { inside (ground_rules ground.now []) first.now ≡ false → IfOk result (λ r. r ≡ Unreached) }
-    ensures second { inside (ground_rules ground.now []) second.now ≡ false → IfOk result (λ r. r ≡ Unreached) }
+) -> Result<Option<K::Amount>, FloodError>
+    ensures first { inside (ground_rules ground.now []) first.now ≡ false → result ≡ Ok None }
+    ensures second { inside (ground_rules ground.now []) second.now ≡ false → result ≡ Ok None }
 {
     let Some(from) = ground.place(first) else {
-        return Ok(Flooded::Unreached);
+        return Ok(None);
     };
     let Some(to) = ground.place(second) else {
-        return Ok(Flooded::Unreached);
+        return Ok(None);
     };
-    let steps = ground.lawful_steps(heap, pieces)?;
-    let mut labels = first_labels::<K::Amount>(heap, steps.len(), from as usize)?;
-    let row = ground.width as usize + 1;
-    let strides = Strides {
+    let mut nodes = ground.nodes::<K::Amount>(heap, pieces, from)?;
+    let row = ground.size.width as usize + 1;
+    let spread = Spread {
+        kind,
         row,
-        plane: row * (ground.height as usize + 1),
+        plane: row * (ground.size.height as usize + 1),
     };
-    if !settle(kind, steps.as_slice(), strides, labels.as_mut_slice()) {
-        return Ok(Flooded::Unsettled);
-    }
-    match labels[to as usize] {
-        Some(amount) => Ok(Flooded::Reached(amount)),
-        None => Ok(Flooded::Unreached),
-    }
+    spread.settle(nodes.as_mut_slice())?;
+    Ok(nodes[to as usize].label)
 }

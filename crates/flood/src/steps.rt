@@ -1,55 +1,21 @@
 // Steps of one unit: which are lawful, by the pieces that stand.
-ghost use Rattle.std.specs.Prelude.{◌≡◌, ◌+◌, ◌≤◌, []};
+ghost use Rattle.std.specs.Prelude.{◌≡◌, ◌+◌, ◌≤◌};
 ghost use Rattle.geometry.specs.Zones.{none_in_way};
-ghost use Rattle.routes.specs.Routes.{along_x, along_y, to_layer, span, box, inside, lawful_move};
+ghost use Rattle.routes.specs.Routes.{to_layer, lawful_move};
 ghost use Rattle.routes.specs.Rules.{free};
-ghost use Rattle.flood.specs.Grounds.{ground_rules, free_on_both, Near};
+ghost use Rattle.flood.specs.Grounds.{ground_rules, next_along, free_on_both};
 
 use crate::ground::Ground;
-use geometry::{Piece, Point, Question, Rect, Span, in_way};
+use geometry::{Axis, Piece, Point, Question, Rect, in_way};
 
 /// Whether no piece is in the way of what a question asks for.
 fn nothing_in_way(q: &Question, pieces: &[Piece]) -> bool
     ensures { result ≡ none_in_way q.now pieces.now }
 {
-    for p in pieces {
-        if in_way(q, p) {
-            return false;
-        }
-    }
-    true
-}
-
-/// The closed span between two coordinates.
-fn span_of(a: u32, b: u32) -> Span
-    requires { (a ≤ 1000) × (b ≤ 1000) }
-    ensures { result ≡ span a b }
-{
-    Span {
-        low: a.min(b) as i32,
-        high: a.max(b) as i32,
-    }
-}
-
-/// The closed box from a point to another.
-fn box_of(p: &Point, q: &Point) -> Rect
-    requires { Near p.now × Near q.now }
-    ensures { result ≡ box p.now q.now }
-{
-    Rect {
-        x: span_of(p.x, q.x),
-        y: span_of(p.y, q.y),
-    }
+    pieces.iter().all(|p| !in_way(q, p))
 }
 
 impl Ground {
-    /// Whether a point is on the panel.
-    pub(crate) fn has(&self, p: &Point) -> bool
-        ensures { result ≡ inside (ground_rules self.now []) p.now }
-    {
-        (1 <= p.layer && p.layer <= self.layers) && (p.x <= self.width && p.y <= self.height)
-    }
-
     /// Whether a closed box of a layer is free at a reach.
     fn is_free(&self, pieces: &[Piece], reach: u16, layer: u8, area: &Rect) -> bool
         ensures { result ≡ free self.now.net reach self.now.class.space pieces.now layer area.now }
@@ -65,49 +31,31 @@ impl Ground {
         nothing_in_way(&question, pieces)
     }
 
-    /// Whether the step along x from a point to the next is lawful.
-    pub fn may_step_x(&self, pieces: &[Piece], p: &Point) -> bool
-        ensures { result ≡ lawful_move (ground_rules self.now pieces.now) p.now (along_x (p.now.x + 1)) }
+    /// Whether the step along an axis from a point to the next is lawful.
+    pub fn may_step(&self, pieces: &[Piece], p: &Point, axis: Axis) -> bool
+        ensures { result ≡ lawful_move (ground_rules self.now pieces.now) p.now (next_along axis p.now) }
     {
-        if self.width <= p.x {
-            return false;
-        }
-        let next = Point {
-            layer: p.layer,
-            x: p.x + 1,
-            y: p.y,
+        let next = match axis {
+            Axis::X if p.x < self.size.width => Point { x: p.x + 1, ..*p },
+            Axis::Y if p.y < self.size.height => Point { y: p.y + 1, ..*p },
+            _ => return false,
         };
-        self.has(&next) && self.is_free(pieces, self.class.half, p.layer as u8, &box_of(p, &next))
-    }
-
-    /// Whether the step along y from a point to the next is lawful.
-    pub fn may_step_y(&self, pieces: &[Piece], p: &Point) -> bool
-        ensures { result ≡ lawful_move (ground_rules self.now pieces.now) p.now (along_y (p.now.y + 1)) }
-    {
-        if self.height <= p.y {
-            return false;
-        }
-        let next = Point {
-            layer: p.layer,
-            x: p.x,
-            y: p.y + 1,
-        };
-        self.has(&next) && self.is_free(pieces, self.class.half, p.layer as u8, &box_of(p, &next))
+        let wire = Rect::between(p, &next);
+        self.size.has(&next) && self.is_free(pieces, self.class.half, p.layer as u8, &wire)
     }
 
     /// Whether the via from a point to the next layer is lawful.
     pub fn may_via(&self, pieces: &[Piece], p: &Point) -> bool
         ensures { result ≡ lawful_move (ground_rules self.now pieces.now) p.now (to_layer (p.now.layer + 1)) }
     {
-        if self.layers <= p.layer {
+        if self.size.layers <= p.layer {
             return false;
         }
         let next = Point {
             layer: p.layer + 1,
-            x: p.x,
-            y: p.y,
+            ..*p
         };
-        self.has(&next) && self.has_pads(pieces, p.layer as u8, &box_of(p, p))
+        self.size.has(&next) && self.has_pads(pieces, p.layer as u8, &Rect::between(p, p))
     }
 
     /// Whether a closed box is free for vias on a layer and on the next.

@@ -4,16 +4,17 @@ ghost use Rattle.std.specs.List.{range_with_len};
 ghost use Rattle.flood.specs.Places.{ground_size, place_known, point_at, steps_at};
 
 use crate::ground::Ground;
-use crate::lawful::Steps;
-use geometry::{Piece, Point};
+use crate::lawful::{Node, Steps};
+use costs::Amount;
+use geometry::{Axis, Piece, Point};
 use std::alloc::{AllocError, Global};
 
 impl Ground {
     /// How many points there are.
-    pub(crate) fn size(&self) -> u32
+    pub(crate) fn points(&self) -> u32
         ensures { result ≡ ground_size self.now }
     {
-        self.layers * (self.height + 1) * (self.width + 1)
+        self.size.layers * (self.size.height + 1) * (self.size.width + 1)
     }
 
     /// The place of a point, counted from 0, if it is on the panel.
@@ -21,8 +22,8 @@ impl Ground {
         ensures answer { result ≡ place_known self.now p.now }
         ensures inside { IfSome result (λ i. i < ground_size self.now) }
     {
-        if self.has(p) {
-            Some(((p.layer - 1) * (self.height + 1) + p.y) * (self.width + 1) + p.x)
+        if self.size.has(p) {
+            Some(((p.layer - 1) * (self.size.height + 1) + p.y) * (self.size.width + 1) + p.x)
         } else {
             None
         }
@@ -33,11 +34,11 @@ impl Ground {
         requires { i < ground_size self.now }
         ensures { result ≡ point_at self.now i }
     {
-        let line = i / (self.width + 1);
+        let line = i / (self.size.width + 1);
         Point {
-            layer: line / (self.height + 1) + 1,
-            x: i % (self.width + 1),
-            y: line % (self.height + 1),
+            layer: line / (self.size.height + 1) + 1,
+            x: i % (self.size.width + 1),
+            y: line % (self.size.height + 1),
         }
     }
 
@@ -49,24 +50,27 @@ impl Ground {
         let p = self.point(i);
         Steps {
             layer: p.layer as u8,
-            right: self.may_step_x(pieces, &p),
-            up: self.may_step_y(pieces, &p),
+            right: self.may_step(pieces, &p, Axis::X),
+            up: self.may_step(pieces, &p, Axis::Y),
             above: self.may_via(pieces, &p),
         }
     }
 
-    /// Which steps are lawful, for each point by its place.
-    pub(crate) fn lawful_steps(
+    /// The points by their places, of which only that at `from` is reached, at no cost.
+    pub(crate) fn nodes<C: Amount>(
         &self,
         heap: Global,
         pieces: &[Piece],
-    ) -> Result<Vec<Steps>, AllocError>
-        ensures { IfOk result (λ v. v.items ≡ map (steps_at self.now pieces.now) (range_with_len 0 (ground_size self.now))) }
+        from: u32,
+    ) -> Result<Vec<Node<C>>, AllocError>
+        ensures { IfOk result (λ v. map (λ node. node.steps) v.items
+            ≡ map (steps_at self.now pieces.now) (range_with_len 0 (ground_size self.now))) }
     {
-        let mut steps = Vec::new(heap);
-        for i in 0..self.size() {
-            steps.push(self.steps_at(pieces, i))?;
-        }
-        Ok(steps)
+        (0..self.points())
+            .map(|i| Node {
+                steps: self.steps_at(pieces, i),
+                label: if i == from { Some(C::zero()) } else { None },
+            })
+            .collect(heap)
     }
 }

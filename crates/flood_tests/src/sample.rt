@@ -1,7 +1,7 @@
 // A keep-out from edge to edge on one layer is passed on the other, and one on each layer bars the way.
-use costs::{ByMoney, ByVias, CostKind, PriceList};
-use flood::{Flooded, Ground, flood};
-use geometry::{Class, Mark, Piece, Point, Rect, Span};
+use costs::{ByMoney, ByVias, CostKind, Money, PriceList, ViasMoney};
+use flood::{Ground, flood};
+use geometry::{Class, Mark, Measures, Piece, Point, Rect, Size, Span};
 use std::alloc::Global;
 use std::process::Abort;
 use std::test::Fail;
@@ -16,6 +16,18 @@ const SECOND: Point = Point {
     layer: 1,
     x: 90,
     y: 30,
+};
+
+const MEASURES: Measures = Measures {
+    half: 2,
+    space: 3,
+    pad: 3,
+};
+
+const SIZE: Size = Size {
+    width: 100,
+    height: 60,
+    layers: 2,
 };
 
 /// A keep-out from edge to edge on a layer.
@@ -47,22 +59,9 @@ fn reached<K: CostKind>(
     kind: K,
     pieces: &[Piece],
 ) -> Result<Option<K::Amount>, Fail> {
-    let mut ground = None;
-    if let Some(class) = Class::new(2, 3, 3) {
-        ground = Ground::new(100, 60, 2, class, 7);
-    }
-    assert!(rt; ground.is_some());
-    let Some(ground) = ground else {
-        return Ok(None);
-    };
-    match flood(heap, kind, &ground, pieces, &FIRST, &SECOND)? {
-        Flooded::Reached(amount) => Ok(Some(amount)),
-        Flooded::Unreached => Ok(None),
-        Flooded::Unsettled => {
-            assert!(rt; false, "unsettled");
-            Ok(None)
-        }
-    }
+    let class = Class::new(MEASURES).expect(rt, "the class");
+    let ground = Ground::new(SIZE, class, 7).expect(rt, "the ground");
+    Ok(flood(heap, kind, &ground, pieces, &FIRST, &SECOND)?)
 }
 
 #[test]
@@ -70,9 +69,13 @@ fn a_bar_is_passed_on_the_other_layer(rt: HostRuntime) -> Result<(), Fail> {
     let prices = prices()?;
     let pieces = [bar(1)];
     let money = reached(&rt, rt.alloc(), ByMoney { prices }, &pieces)?;
-    assert_eq!(rt; money.map(|m| m.units), Some(144));
+    assert_eq!(rt; money, Some(Money { units: 144 }));
     let pair = reached(&rt, rt.alloc(), ByVias { prices }, &pieces)?;
-    assert_eq!(rt; pair.map(|m| (m.vias, m.units)), Some((2, 124)));
+    let least = ViasMoney {
+        vias: 2,
+        units: 124,
+    };
+    assert_eq!(rt; pair, Some(least));
     Ok(())
 }
 
@@ -80,7 +83,7 @@ fn a_bar_is_passed_on_the_other_layer(rt: HostRuntime) -> Result<(), Fail> {
 fn nothing_in_the_way_is_straight(rt: HostRuntime) -> Result<(), Fail> {
     let prices = prices()?;
     let money = reached(&rt, rt.alloc(), ByMoney { prices }, &[])?;
-    assert_eq!(rt; money.map(|m| m.units), Some(80));
+    assert_eq!(rt; money, Some(Money { units: 80 }));
     Ok(())
 }
 
@@ -89,6 +92,6 @@ fn bars_on_both_layers_leave_no_path(rt: HostRuntime) -> Result<(), Fail> {
     let prices = prices()?;
     let pieces = [bar(1), bar(2)];
     let money = reached(&rt, rt.alloc(), ByMoney { prices }, &pieces)?;
-    assert!(rt; money.is_none());
+    assert_eq!(rt; money, None);
     Ok(())
 }

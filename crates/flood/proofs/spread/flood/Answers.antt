@@ -1,4 +1,5 @@
-use Rattle.std.proofs.Common.{length, ap, ◌∙◌, arith}
+use Rattle.std.proofs.Common.{length, sym, ap, ◌∙◌, arith}
+use Rattle.std.proofs.lemmas.List.{length-map}
 use Rattle.std.proofs.lemmas.List.FromFn.{length-map-range_with_len}
 use Rattle.flood.specs.Places.{ground_size, steps_at}
 use Rattle.flood.proofs.spread.flood.Goals as goal
@@ -6,9 +7,6 @@ use Rattle.flood.proofs.spread.flood.Goals as goal
 pub index-requires : goal.index-requires
 index-requires g c =
     let ground = c.args.ground.now in
-    let all = ap length c.in_ok-steps.ensures
+    let all = sym (length-map c.in_ok-nodes.nodes.items (λ node. node.steps)) ∙ ap length c.in_ok-nodes.ensures
     ∙ length-map-range_with_len (steps_at ground c.args.pieces.now) 0 (ground_size ground) in
-    let inside = c.in-Some-place.ensures.inside in
-    let labels = c.in_ok-labels.ensures in
-    let steps = c.in_ok-steps.steps.ok.0 in
-    omega (arith, all, inside, labels, steps, c.len.ensures)
+    omega (arith, all, c.in-Some-place.ensures.inside, c.in_ok-nodes.nodes.ok.0)

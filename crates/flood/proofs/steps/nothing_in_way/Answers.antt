@@ -1,25 +1,13 @@
-use Rattle.std.proofs.Common.{sym, ◌∙◌}
-use Rattle.std.proofs.lemmas.List.{at_drop_all}
-use Rattle.geometry.specs.Zones.{none_in_way}
-use Rattle.flood.proofs.Ways.{no_piece, none_at}
+use Rattle.std.proofs.Common.{rules, ◌∙◌, Bool, not}
+use Rattle.std.proofs.lemmas.Iterator.{YieldsList-from_slice}
+use Rattle.std.proofs.lemmas.Iterator.Search.{all_from_yields_List}
+use Rattle.geometry.specs.declared.piece.Piece.{Piece}
+use Rattle.geometry.specs.Zones.{in_way}
+use Rattle.flood.proofs.Ways.{all_of_list}
 use Rattle.flood.proofs.steps.nothing_in_way.Goals as goal
-
-pub returns-then-in_way : goal.returns-then-in_way
-returns-then-in_way c =
-    let q = c.args.q.now in
-    let ps = c.args.pieces.now in
-    let here = none_at q ps c.loop-p.p-index no_piece _ c.loop-p-test.true c.if-in_way.ensures in
-    sym here ∙ c.loop-p.invariant
-
-pub loop-p-preserved : goal.loop-p-preserved
-loop-p-preserved c =
-    let q = c.args.q.now in
-    let ps = c.args.pieces.now in
-    let here = none_at q ps c.loop-p.p-index no_piece _ c.loop-p-test.true c.if-in_way.ensures in
-    sym here ∙ c.loop-p.invariant
 
 pub returns : goal.returns
 returns c =
-    let q = c.args.q.now in
-    let ps = c.args.pieces.now in
-    sym (at_drop_all (none_in_way q) ps c.loop-p.p-index c.loop-p-test.false) ∙ c.loop-p.invariant
+    let clear : Piece → Bool = λ p. not (in_way c.args.q.now p) in
+    all_from_yields_List clear _ _ _ c.all.ensures.ran (YieldsList-from_slice c.args.pieces.now cc) (λ x b q k. search rules)
+    ∙ all_of_list clear c.args.pieces.now
