@@ -1,5 +1,5 @@
 -- Orders in which places are swept. Assumes nothing.
-use Rattle.std.proofs.Common.{◌≡◌, ℕ, ◌+◌, ◌-◌, ◌<◌, ◌≤◌, zero, suc, List, [], ◌∷◌, Option, Some, All, refl, arith}
+use Rattle.std.proofs.Common.{◌≡◌, ℕ, ◌+◌, ◌-◌, ◌<◌, ◌≤◌, zero, suc, [], ◌∷◌, Option, Some, All, refl, arith}
 use Rattle.std.specs.Iterator.{HoldsAlong}
 use Rattle.std.specs.Iterator.Adapters.{rev_steps, rev_source}
 use Rattle.std.specs.Range.{range_steps, range_steps_back}

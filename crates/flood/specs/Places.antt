@@ -9,7 +9,7 @@ use Rattle.geometry.specs.declared.piece.Piece.{Piece}
 use Rattle.geometry.specs.declared.point.Point.{Point}
 use Rattle.routes.specs.Routes.{to_layer, inside, lawful_move}
 use Rattle.flood.specs.declared.ground.Ground.{Ground}
-use Rattle.flood.specs.declared.lawful.Steps.{Steps}
+use Rattle.flood.specs.declared.node.Steps.{Steps}
 use Rattle.flood.specs.Grounds.{ground_rules, next_along}
 
 abbrev pub ground_size : Ground → ℕ

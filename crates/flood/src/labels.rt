@@ -1,7 +1,7 @@
 // Labels: for how much each point is known to be reached.
 ghost use Rattle.std.specs.Prelude.{◌<◌, length};
 
-use crate::lawful::Node;
+use crate::node::Node;
 use costs::{Amount, CostKind};
 use geometry::Axis;
 

@@ -4,7 +4,7 @@
 
 mod ground;
 mod labels;
-mod lawful;
+mod node;
 mod open;
 mod spread;
 mod steps;

@@ -7,7 +7,7 @@ ghost use Rattle.flood.specs.Grounds.{ground_rules};
 
 use crate::ground::Ground;
 use crate::labels::Spread;
-use crate::lawful::Node;
+use crate::node::Node;
 use costs::CostKind;
 use geometry::{Piece, Point};
 use std::alloc::{AllocError, Global};

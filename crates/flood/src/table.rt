@@ -4,13 +4,14 @@ ghost use Rattle.std.specs.List.{range_with_len};
 ghost use Rattle.flood.specs.Places.{ground_size, place_known, point_at, steps_at};
 
 use crate::ground::Ground;
-use crate::lawful::{Node, Steps};
+use crate::node::{Node, Steps};
 use costs::Amount;
 use geometry::{Axis, Piece, Point};
 use std::alloc::{AllocError, Global};
 
 impl Ground {
     /// How many points there are.
+    #[tactic(auto, using(crate::proofs::Bounds::size_few))]
     pub(crate) fn points(&self) -> u32
         ensures { result ≡ ground_size self.now }
     {
@@ -18,6 +19,7 @@ impl Ground {
     }
 
     /// The place of a point, counted from 0, if it is on the panel.
+    #[tactic(auto, using(crate::proofs::Bounds::size_few, crate::proofs::Bounds::place_inside))]
     pub(crate) fn place(&self, p: &Point) -> Option<u32>
         ensures answer { result ≡ place_known self.now p.now }
         ensures inside { IfSome result (λ i. i < ground_size self.now) }
@@ -43,6 +45,7 @@ impl Ground {
     }
 
     /// Which steps from the point at a place are lawful.
+    #[tactic(auto, using(crate::proofs::Bounds::layer_at))]
     fn steps_at(&self, pieces: &[Piece], i: u32) -> Steps
         requires { i < ground_size self.now }
         ensures { result ≡ steps_at self.now pieces.now i }

@@ -1,4 +1,4 @@
-// The nodes of a flood: the points of the unit grid.
+// The nodes of a flood: the points of the unit grid, with what is known of each.
 
 /// The layer of a point, and whether the steps from it to the next along x, along y and to the layer above are lawful.
 #[derive(Clone, Copy, Debug, PartialEq, Eq)]
