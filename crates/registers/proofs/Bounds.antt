@@ -24,9 +24,9 @@ high_itself : (a z : ℤ) → le_z z (int_max a z) ≡ true
 high_itself a z = grind (arith, ints)
 
 -- a chain with one piece more bounds what it bounded
-pub within_more : (c : Chain) (place : ℕ) (p r : Piece)
-    → within_chain c r ≡ true → within_chain (chain_with place p c) r ≡ true
-within_more c place p r h =
+pub within_more : (c : Chain) (k : ℕ) (p r : Piece)
+    → within_chain c r ≡ true → within_chain (chain_with k p c) r ≡ true
+within_more c k p r h =
     let low = and_parts (le_z c.y.low r.rect.y.low) _ h in
     let high = and_parts (le_z r.rect.y.high c.y.high) _ low.1 in
     and_from _ _ (lower_low c.y.low p.rect.y.low r.rect.y.low low.0)
@@ -34,8 +34,8 @@ within_more c place p r h =
     (le-leb r.space (max c.space p.space) (omega (arith, leb-true _ _ high.1))))
 
 -- and that piece
-pub within_itself : (c : Chain) (place : ℕ) (p : Piece) → within_chain (chain_with place p c) p ≡ true
-within_itself c place p =
+pub within_itself : (c : Chain) (k : ℕ) (p : Piece) → within_chain (chain_with k p c) p ≡ true
+within_itself c k p =
     and_from _ _ (low_itself c.y.low p.rect.y.low)
     (and_from _ _ (high_itself c.y.high p.rect.y.high)
     (le-leb p.space (max c.space p.space) (omega arith)))

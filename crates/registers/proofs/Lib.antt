@@ -1,6 +1,5 @@
 pub mod Bounds
 pub mod Firsts
-pub mod Fronts
 pub mod Keeps
 pub mod Lasts
 pub mod Linking

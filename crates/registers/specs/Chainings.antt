@@ -1,26 +1,22 @@
--- When the first pieces of a list are chained through a list of links. Assumes nothing.
+-- When pieces are chained. Assumes nothing.
 --     piece_at ps k           the k-th piece, counted from 0
 --     chain_at height ps k    the chain that it belongs to
---     links_with, heads_with  a piece is put at the end of its chain
---     last_in f s n           the last of the first n places that is in chain s, counted from 1, or 0 if none is
---     Chained                 the first n pieces are chained
---     strip_room              the least of the slots, the links and 4,096
-use Rattle.std.specs.Prelude.{◌≡◌, ℕ, zero, suc, ◌+◌, ◌<◌, min, true, cond, List, length, get_or, pos, ◌==◌, slice_index, slice_index_or, slice_set}
-use Rattle.geometry.specs.declared.rect.Span.{Span}
-use Rattle.geometry.specs.declared.piece.Mark.TheVariants.{Placed}
+--     head_at c s             the chain s
+--     place_of k              where a link leads
+--     last_in f s n           the last of the first n places that is in chain s, if one is
+--     PutLast i p             a piece is put at the end of its chain
+--     Linked, Headed, Bounded, together Chained      what chains of pieces keep
+--     Rechained ps            some pieces are chained, and no others
+use Rattle.std.specs.Prelude.{◌≡◌, ℕ, zero, suc, ◌<◌, true, cond, List, length, pos, Some, None, Option, unwrap_or, ◌==◌, slice_index, slice_index_or, slice_set}
 use Rattle.geometry.specs.declared.piece.Piece.{Piece}
 use Rattle.registers.specs.declared.chain.Chain.{Chain}
 use Rattle.registers.specs.declared.chains.Chains.{Chains}
+use Rattle.registers.specs.Standing.{no_piece}
 use Rattle.registers.specs.Strips.{chain_of, chain_with, within_chain}
 
--- what a read past the pieces, or past the chains, would give
-abbrev pub no_piece : Piece
-no_piece =
-    let none : Span = record { low = pos 0; high = pos 0 } in
-    record { layer = 0; rect = record { x = none; y = none }; net = 0; space = 0; job = 0; mark = Placed }
-
+-- what a read past the chains would give
 abbrev pub no_chain : Chain
-no_chain = record { last = 0; space = 0; y = record { low = pos 0; high = pos 0 } }
+no_chain = record { last = None; space = 0; y = record { low = pos 0; high = pos 0 } }
 
 abbrev pub piece_at : List Piece → ℕ → Piece
 piece_at ps k = slice_index_or ps k no_piece
@@ -28,42 +24,48 @@ piece_at ps k = slice_index_or ps k no_piece
 abbrev pub chain_at : ℕ → List Piece → ℕ → ℕ
 chain_at height ps k = chain_of height (piece_at ps k)
 
--- The links, and the chains, with the piece p at i put at the end of its chain.
-abbrev pub links_with : ℕ → Piece → ℕ → List ℕ → List Chain → List ℕ
-links_with i p height links heads = slice_set links i (get_or heads (chain_of height p) no_chain).last
+abbrev pub head_at : Chains → ℕ → Chain
+head_at c s = slice_index_or c.heads s no_chain
 
-abbrev pub heads_with : ℕ → Piece → ℕ → List Chain → List Chain
-heads_with i p height heads =
-    slice_set heads (chain_of height p) (chain_with (i + 1) p (slice_index_or heads (chain_of height p) no_chain))
+-- The largest number that a link can be leads nowhere.
+abbrev pub place_of : ℕ → Option ℕ
+place_of k = cond (k == 65535) None (Some k)
 
-abbrev pub last_in : (ℕ → ℕ) → ℕ → ℕ → ℕ
-last_in f s zero = 0
-last_in f s (suc n) = cond (f n == s) (suc n) (last_in f s n)
-
--- Each of the first n pieces leads to the one before it in its chain.
-abbrev pub Linked : List Piece → ℕ → ℕ → List ℕ → Type 0
-Linked ps n height links =
-    (i : ℕ) → i < n → slice_index links i ≡ last_in (chain_at height ps) (chain_at height ps i) i
-
--- Each chain leads to its last piece.
-abbrev pub Headed : List Piece → ℕ → ℕ → List Chain → Type 0
-Headed ps n height heads = (s : ℕ) → s < 256 → (get_or heads s no_chain).last ≡ last_in (chain_at height ps) s n
-
--- Each piece is within the bounds of its chain.
-abbrev pub Bounded : List Piece → ℕ → ℕ → List Chain → Type 0
-Bounded ps n height heads =
-    (i : ℕ) → i < n → within_chain (slice_index_or heads (chain_at height ps i) no_chain) (piece_at ps i) ≡ true
+abbrev pub last_in : (ℕ → ℕ) → ℕ → ℕ → Option ℕ
+last_in f s zero = None
+last_in f s (suc n) = cond (f n == s) (Some n) (last_in f s n)
 
 -- The piece p at i is put at the end of its chain.
 pub record PutLast (i : ℕ) (p : Piece) (before after : Chains) : Type 0 where
-  pub links : after.links.now ≡ links_with i p before.height before.links.now before.heads
-  pub heads : after.heads ≡ heads_with i p before.height before.heads
-  pub height : after.height ≡ before.height
+  pub inside : chain_of before.strips.height p < length before.heads
+  pub links :
+      after.links.now ≡ slice_set before.links.now i (unwrap_or (head_at before (chain_of before.strips.height p)).last 65535)
+  pub heads :
+      let s = chain_of before.strips.height p in after.heads ≡ slice_set before.heads s (chain_with i p (head_at before s))
+  pub strips : after.strips ≡ before.strips
 
-pub record Chained (ps : List Piece) (n height : ℕ) (links : List ℕ) (heads : List Chain) : Type 0 where
-  pub linked : Linked ps n height links
-  pub headed : Headed ps n height heads
-  pub bounded : Bounded ps n height heads
+-- Each piece leads to the one before it in its chain.
+abbrev pub Linked : List Piece → Chains → Type 0
+Linked ps c =
+    let f = chain_at c.strips.height ps in
+    (i : ℕ) → i < length ps → place_of (slice_index c.links.now i) ≡ last_in f (f i) i
 
-abbrev pub strip_room : List Piece → List ℕ → ℕ
-strip_room slots links = min (min (length slots) (length links)) 4096
+-- Each chain leads to its last piece.
+abbrev pub Headed : List Piece → Chains → Type 0
+Headed ps c =
+    (s : ℕ) → s < 256 → (head_at c s).last ≡ last_in (chain_at c.strips.height ps) s (length ps)
+
+-- Each piece is within the bounds of its chain.
+abbrev pub Bounded : List Piece → Chains → Type 0
+Bounded ps c =
+    (i : ℕ) → i < length ps → within_chain (head_at c (chain_at c.strips.height ps i)) (piece_at ps i) ≡ true
+
+pub record Chained (ps : List Piece) (c : Chains) : Type 0 where
+  pub linked : Linked ps c
+  pub headed : Headed ps c
+  pub bounded : Bounded ps c
+
+pub record Rechained (ps : List Piece) (before after : Chains) : Type 0 where
+  pub chained : Chained ps after
+  pub links : length after.links.now ≡ length before.links.now
+  pub strips : after.strips ≡ before.strips

@@ -1,4 +1,5 @@
 pub mod Chainings
+pub mod Filled
 pub mod Plains
 pub mod Standing
 pub mod StripRegisters

@@ -7,10 +7,10 @@
 --     first_chain layer       the first chain of a layer; layers that are eight apart share theirs
 --     chain_of height p       the chain of a piece
 --     unused c                a chain has no pieces
---     chain_with place p c    a chain with one piece more, which is its last
+--     chain_with k p c        a chain with one piece more, which is its last
 --     within_chain c p        a piece is within a chain's bounds
 --     chain_near q c          a piece within the bounds can be in the way, as far as y and the spaces tell
-use Rattle.std.specs.Prelude.{ℕ, ◌+◌, ◌*◌, ◌/◌, ◌%◌, min, max, Bool, cond, ◌&&◌, ℤ, pos, negsuc, ◌+ℤ◌, ◌==◌, int_le, int_lt, nat_le}
+use Rattle.std.specs.Prelude.{ℕ, ◌+◌, ◌*◌, ◌/◌, ◌%◌, min, max, Bool, cond, ◌&&◌, Some, is_none, ℤ, pos, negsuc, ◌+ℤ◌, int_le, int_lt, nat_le}
 use Rattle.std.specs.Int.{int_min, int_max}
 use Rattle.geometry.specs.declared.rect.Span.{Span}
 use Rattle.geometry.specs.declared.piece.Piece.{Piece}
@@ -44,13 +44,13 @@ chain_of height p = first_chain p.layer + layer_chain height p.rect.y
 
 -- a chain without a last piece
 abbrev pub unused : Chain → Bool
-unused c = c.last == 0
+unused c = is_none c.last
 
 abbrev pub joined : Span → Span → Span
 joined a b = record { low = int_min a.low b.low; high = int_max a.high b.high }
 
 abbrev pub chain_with : ℕ → Piece → Chain → Chain
-chain_with place p c = record { last = place; space = max c.space p.space; y = joined c.y p.rect.y }
+chain_with k p c = record { last = Some k; space = max c.space p.space; y = joined c.y p.rect.y }
 
 abbrev pub within_chain : Chain → Piece → Bool
 within_chain c p =

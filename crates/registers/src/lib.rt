@@ -8,8 +8,7 @@ mod plain;
 mod register;
 mod slots;
 mod strip;
-mod strip_chains;
-mod strip_register;
+mod strips;
 
 pub use pieces::Pieces;
 pub use plain::PlainRegister;

@@ -1,56 +1,110 @@
-// Pieces in the first of a row of slots: looked through, appended and compacted.
-ghost use Rattle.std.specs.Prelude.{◌≡◌, ◌+◌, ◌<◌, [], ◌∷◌, ◌++◌};
-ghost use Rattle.registers.specs.Plains.{room, stand, Compacted};
-ghost use Rattle.registers.specs.Standing.{ToldPiece, ToldInWay};
+// Slots that a caller lends, the first of which hold the standing pieces.
+ghost use Rattle.std.specs.Prelude.{◌≡◌, ◌+◌, ◌<◌, ◌≤◌, min, [], ◌∷◌, ◌++◌, length, take, is_ok, nat_lt};
+ghost use Rattle.registers.specs.Standing.{appended_if, without_job, count_of_job, Compacted};
 
-use geometry::{Piece, Question, in_way};
+use crate::register::Full;
+use geometry::Piece;
 
 /// The most places that a register has.
 pub(crate) const PLACES: usize = 4096;
 
-/// The k-th of some pieces, counted from 0.
-pub(crate) fn nth(pieces: &[Piece], k: usize) -> Option<Piece>
-    ensures { ToldPiece pieces.now k result }
-{
-    if k < pieces.len() {
-        Some(pieces[k])
-    } else {
-        None
-    }
-}
-
-/// The job number of the first of some pieces that is in the way.
-pub(crate) fn first_in_way(pieces: &[Piece], q: &Question) -> Option<u16>
-    ensures { ToldInWay q.now pieces.now result }
-{
-    for p in pieces {
-        if in_way(q, p) {
-            return Some(p.job);
-        }
-    }
-    None
+/// Slots, how many of them are places for pieces, and in how many a piece stands.
+#[derive(Drop)]
+pub(crate) struct Slots<'a> {
+    pub pieces: &'a mut [Piece],
+    pub places: usize,
+    pub count: usize,
+    ghost inside: { places ≤ length pieces.now },
+    ghost limited: { places ≤ 4096 },
+    ghost within: { count ≤ places },
 }
 
 /// Puts a piece into the slot behind the first `count`.
-pub(crate) fn append(slots: &mut [Piece], count: usize, p: Piece)
-    requires { count < room slots.old }
-    ensures { stand (count + 1) slots.new ≡ stand count slots.old ++ (p ∷ []) }
+fn append(slots: &mut [Piece], count: usize, p: Piece)
+    requires { count < length slots.old }
+    ensures stands { take (count + 1) slots.new ≡ take count slots.old ++ (p ∷ []) }
 {
     slots[count] = p;
 }
 
-/// Moves the pieces that are not of `job` to the front, in their order, and says how many they are.
-pub(crate) fn compact(slots: &mut [Piece], count: usize, job: u32) -> usize
-    ensures { Compacted job (stand count slots.old) result slots.new }
+/// Moves those of the first `count` pieces that are not of `job` to the front, in their order, and says how many they are.
+fn compact(slots: &mut [Piece], count: usize, job: u32) -> usize
+    requires { count ≤ length slots.old }
+    ensures { Compacted job (take count slots.old) result slots.new }
 {
-    let n = count.min(slots.len()).min(PLACES);
-    let mut k = 0;
-    for i in 0..n {
+    let mut kept = 0;
+    // by index: one slot is read and another written, and a slice has no method that keeps an order in place
+    for i in 0..count {
         let p = slots[i];
         if p.job as u32 != job {
-            slots[k] = p;
-            k += 1;
+            slots[kept] = p;
+            kept += 1;
         }
     }
-    k
+    kept
+}
+
+impl<'a> Slots<'a> {
+    ghost use Rattle.registers.specs.Filled.{standing};
+
+    /// Slots in which nothing stands, with at most so many places.
+    pub(crate) fn new(pieces: &'a mut [Piece], most: usize) -> Slots<'a>
+        ensures none { result.count ≡ 0 }
+        ensures places { result.places ≡ min (min (length pieces.old) most) 4096 }
+    {
+        let places = pieces.len().min(most).min(PLACES);
+        Slots {
+            pieces,
+            places,
+            count: 0,
+        }
+    }
+
+    /// The pieces that stand.
+    pub(crate) fn standing(&self) -> &[Piece]
+        ensures { result.now ≡ standing self.now }
+    {
+        &self.pieces[0..self.count]
+    }
+
+    /// How many places are free.
+    pub(crate) fn free(&self) -> usize
+        ensures { result + self.now.count ≡ self.now.places }
+    {
+        self.places - self.count
+    }
+
+    /// Appends a piece while a place is free, and else only refuses.
+    pub(crate) fn add(&mut self, p: Piece) -> Result<(), Full>
+        ensures answer { is_ok result ≡ nat_lt self.old.count self.old.places }
+        ensures stands { standing self.new ≡ appended_if (is_ok result) p (standing self.old) }
+        ensures places { self.new.places ≡ self.old.places }
+    {
+        if self.free() == 0 {
+            return Err(Full);
+        }
+        append(self.pieces, self.count, p);
+        self.count += 1;
+        Ok(())
+    }
+
+    /// Takes out all pieces of a job, keeps the order of the rest, and says how many went.
+    pub(crate) fn take_out(&mut self, job: u32) -> usize
+        ensures answer { result ≡ count_of_job job (standing self.old) }
+        ensures stands { standing self.new ≡ without_job job (standing self.old) }
+        ensures places { self.new.places ≡ self.old.places }
+    {
+        let before = self.count;
+        let left = compact(self.pieces, before, job);
+        self.count = left;
+        before - left
+    }
+
+    /// Takes out all pieces.
+    pub(crate) fn clear(&mut self)
+        ensures none { self.new.count ≡ 0 }
+        ensures places { self.new.places ≡ self.old.places }
+    {
+        self.count = 0;
+    }
 }

@@ -1,8 +1,14 @@
-use Rattle.std.proofs.Common.{arith}
+use Rattle.std.proofs.Common.{ap, length, arith, length-take}
+use Rattle.registers.specs.Filled.{standing}
 use Rattle.registers.proofs.Linking.{chained_none}
 use Rattle.registers.proofs.strip.StripRegister.new.Goals as goal
 
 pub invariant_of-result : goal.invariant_of-result
 invariant_of-result c =
-    let none = chained_none c.args.slots.now _ _ _ c.new.ensures.empty in
-    record { within = omega arith; linked = none.linked; headed = none.headed; bounded = none.bounded }
+    let none = chained_none (standing c.new.result) c.new-2.result (simp length-take (omega arith)) c.new-2.ensures.empty in
+    record {
+      roomy = omega (arith, ap length c.new-2.ensures.links);
+      linked = none.linked;
+      headed = none.headed;
+      bounded = none.bounded;
+    }
