@@ -1,5 +1,4 @@
 pub mod Driving
-pub mod Facts
 pub mod Keeping
 pub mod Lifting
 pub mod Orders

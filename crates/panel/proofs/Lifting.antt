@@ -1,28 +1,33 @@
--- Taking out the elements that pass a test, where none does and where some do. Assumes nothing.
-use Rattle.std.proofs.Common.{◌≡◌, Bool, true, false, cond, not, ◌||◌, T, List, [], ◌∷◌, length, filter, refl, ap, arith}
+-- What a lift answers and leaves, as no piece of its job stands or some do. Assumes nothing.
+use Rattle.std.proofs.Common.{◌≡◌, ℕ, Bool, not, T, List, [], ◌∷◌, length, filter, refl, sym, subst, arith, nat_lt, Ok, Err}
+use Rattle.geometry.specs.Clearance.{in_order}
 use Rattle.geometry.specs.Lists.{any_of}
+use Rattle.geometry.specs.declared.piece.Piece.{Piece}
+use Rattle.registers.specs.Standing.{of_job, without_job, count_of_job}
+use Rattle.panel.specs.Standing.{Standing}
+use Rattle.panel.specs.Calls.{LiftAnswer}
+use Rattle.panel.specs.declared.refusal.Refusal.TheVariants.{NoSuchJob}
+use Rattle.panel.proofs.Orders.{kept_in_order}
 
-pub none_pass : {X : Type 0} (test : X → Bool) (xs : List X) → length (filter test xs) ≡ 0 → T (not (any_of test xs))
-none_pass test [] e = tt
-none_pass test (x ∷ xs) e =
-    elim (test x) as (λ k. length (cond k (x ∷ filter test xs) (filter test xs)) ≡ 0 → T (not (k || any_of test xs))) [
-      | true ↦ λ z. absurd (omega (arith, z))
-      | false ↦ λ z. none_pass test xs z
-    ] e
+any_counted : {X : Type 0} (test : X → Bool) (xs : List X) → any_of test xs ≡ nat_lt 0 (length (filter test xs))
+any_counted test [] = refl
+any_counted test (x ∷ xs) = grind (arith, any_counted test xs)
 
-pub none_out : {X : Type 0} (test : X → Bool) (xs : List X) → length (filter test xs) ≡ 0 → filter (λ x. not (test x)) xs ≡ xs
+none_out : {X : Type 0} (test : X → Bool) (xs : List X) → length (filter test xs) ≡ 0 → filter (λ x. not (test x)) xs ≡ xs
 none_out test [] e = refl
-none_out {X} test (x ∷ xs) e =
-    elim (test x) as (λ k. length (cond k (x ∷ filter test xs) (filter test xs)) ≡ 0
-    → ◌≡◌ {A = List X} (cond (not k) (x ∷ filter (λ y. not (test y)) xs) (filter (λ y. not (test y)) xs)) (x ∷ xs)) [
-      | true ↦ λ z. absurd (omega (arith, z))
-      | false ↦ λ z. ap {B = List X} (λ ys. x ∷ ys) (none_out test xs z)
-    ] e
+none_out test (x ∷ xs) e = grind (arith, none_out test xs)
 
-pub some_pass : {X : Type 0} (test : X → Bool) (xs : List X) → (length (filter test xs) ≡ 0 → ⊥) → T (not (any_of test xs)) → ⊥
-some_pass test [] some none = some refl
-some_pass test (x ∷ xs) some none =
-    elim (test x) as (λ k. (length (cond k (x ∷ filter test xs) (filter test xs)) ≡ 0 → ⊥) → T (not (k || any_of test xs)) → ⊥) [
-      | true ↦ λ s n. n
-      | false ↦ λ s n. some_pass test xs s n
-    ] some none
+pub none_lifted : (st : Standing) (job : ℕ) → count_of_job job st.pieces ≡ 0 → LiftAnswer st job (Err NoSuchJob)
+none_lifted st job none = grind (arith, any_counted (of_job job) st.pieces)
+
+pub some_lifted : (st : Standing) (job : ℕ) → (count_of_job job st.pieces ≡ 0 → ⊥) → LiftAnswer st job (Ok (count_of_job job st.pieces))
+some_lifted st job some = grind (arith, any_counted (of_job job) st.pieces)
+
+pub without_none : (job : ℕ) (ps : List Piece) → count_of_job job ps ≡ 0 → without_job job ps ≡ ps
+without_none job ps none = none_out (of_job job) ps none
+
+pub without_in_order : (job : ℕ) (before after : List Piece) → after ≡ without_job job before → T (in_order before) → T (in_order after)
+without_in_order job before after e h = subst (λ ps. T (in_order ps)) (sym e) (kept_in_order (λ p. not (of_job job p)) before h)
+
+-- what the call of lift stands on
+pub ruleset lifting_laws = (none_lifted, some_lifted, without_none, without_in_order)

@@ -1,15 +1,20 @@
--- A panel of the code, as the statements see it. Assumes nothing.
-use Rattle.std.specs.Prelude.{◌≡◌, ℕ, List}
-use Rattle.geometry.specs.declared.piece.Piece.{Piece}
-use Rattle.panel.specs.declared.panel.Panel.{Panel}
-use Rattle.panel.specs.Standing.{Standing}
+-- A panel as the statements see it. Assumes nothing.
+--     PanelState K          what a panel with this kind of cost is
+--     opened                a panel on which nothing stands yet
+--     leaving st p          the panel p where st stands
+use Rattle.std.specs.Prelude.{ℕ}
+use Rattle.panel.specs.declared.sheet.Sheet.{Sheet}
+use Rattle.panel.specs.Standing.{Standing, nothing_stands}
 
--- what stands, by what a register means
-abbrev pub standing : {K R C : Type 0} → (R → List Piece) → Panel K R C → Standing
-standing pieces p = record { pieces = pieces p.register; jobs = p.last }
+-- its sheet, its kind of cost, how many places its register has, and what stands
+pub record PanelState (K : Type 0) : Type 0 where
+  pub sheet : Sheet
+  pub kind : K
+  pub places : ℕ
+  pub standing : Standing
 
--- A call leaves the sheet, the kind of cost and the number of places as they are.
-pub record SameSetup {K R C : Type 0} (places : R → ℕ) (before after : Panel K R C) : Type 0 where
-  pub sheet_is : after.sheet ≡ before.sheet
-  pub kind_is : after.kind ≡ before.kind
-  pub places_is : places after.register ≡ places before.register
+abbrev pub opened : {K : Type 0} → Sheet → K → ℕ → PanelState K
+opened sheet kind places = record { sheet = sheet; kind = kind; places = places; standing = nothing_stands }
+
+abbrev pub leaving : {K : Type 0} → Standing → PanelState K → PanelState K
+leaving st p = record { sheet = p.sheet; kind = p.kind; places = p.places; standing = st }

@@ -4,7 +4,7 @@
 --     Run events           each answer is right where that stands which the events before it tell
 --     Promise events       different nets keep their clearance, from the opening on
 --     Driven               the calls that were made, with the answers given, are such a run
-use Rattle.std.specs.Prelude.{◌≡◌, ℕ, T, List, [], ◌∷◌, map, Result}
+use Rattle.std.specs.Prelude.{◌≡◌, ℕ, T, List, [], ◌∷◌, map, Result, fold}
 use Rattle.std.specs.Result.{result_map_both}
 use Rattle.geometry.specs.Clearance.{clear}
 use Rattle.panel.specs.declared.sheet.Sheet.{Sheet}
@@ -15,6 +15,7 @@ use Rattle.panel.specs.declared.calls.Done.{Done}
 use Rattle.panel.specs.declared.calls.Done.TheVariants.{Placed, Lifted}
 use Rattle.panel.specs.declared.refusal.Refusal.{Refusal}
 use Rattle.panel.specs.Standing.{Standing, nothing_stands, after_place, after_lift}
+use Rattle.panel.specs.Panels.{PanelState, leaving}
 use Rattle.panel.specs.Calls.{PlaceAnswer, LiftAnswer}
 
 pub data Event : Type 0 where
@@ -27,8 +28,7 @@ next st (placing a answer) = after_place st a answer
 next st (lifting job answer) = after_lift st job answer
 
 abbrev pub told_from : Standing → List Event → Standing
-told_from st [] = st
-told_from st (e ∷ es) = told_from (next st e) es
+told_from = fold next
 
 -- from the opening on
 abbrev pub told : List Event → Standing
@@ -69,13 +69,13 @@ abbrev pub answer_of : Event → Result Done Refusal
 answer_of (placing a answer) = result_map_both Placed (λ e. e) answer
 answer_of (lifting job answer) = result_map_both Lifted (λ e. e) answer
 
--- One call was made where st stands, and st' stands then.
-pub record Made (s : Sheet) (places : ℕ) (st : Standing) (call : Call) (answer : Result Done Refusal) (st' : Standing) : Type 0 where
+-- One call was made on a panel, with this answer, and leaves it as it is after.
+pub record Made {K : Type 0} (before : PanelState K) (call : Call) (answer : Result Done Refusal) (after : PanelState K) : Type 0 where
   pub event : Event
   pub of_call : call_of event ≡ call
   pub of_answer : answer_of event ≡ answer
-  pub is_right : Answered s places st event
-  pub stands : st' ≡ next st event
+  pub is_right : Answered before.sheet before.places before.standing event
+  pub leaves : after ≡ leaving (next before.standing event) before
 
 pub record Driven (s : Sheet) (places : ℕ) (calls : List Call) (answers : List (Result Done Refusal)) : Type 0 where
   pub events : List Event

@@ -3,14 +3,14 @@ ghost use Rattle.std.specs.Prelude.{◌≡◌, T};
 ghost use Rattle.geometry.specs.Clearance.{in_order};
 ghost use Rattle.panel.specs.Calls.{PlaceAnswer, LiftAnswer, has_layer, on_panel, well_placed, room_for};
 ghost use Rattle.panel.specs.Standing.{FitsPanel, rect_of, placed, after_place, after_lift};
-ghost use Rattle.panel.specs.Panels.{standing, SameSetup};
+ghost use Rattle.panel.specs.Panels.{leaving};
 
 use crate::calls::Placement;
 use crate::panel::Panel;
 use crate::refusal::Refusal;
 use crate::sheet::Sheet;
 use costs::{Amount, CostKind};
-use geometry::{Mark, Piece, Question, Rect, Span};
+use geometry::{Mark, Piece, Rect, Span, room_of};
 use registers::{Pieces, Register};
 
 impl Sheet {
@@ -40,10 +40,10 @@ impl Sheet {
     }
 }
 
-// The rectangle of a placement that lies on the panel.
-fn rect_of(a: &Placement) -> Rect
+// The piece that a placement asks for, which has no job number yet.
+fn piece_of(a: &Placement) -> Piece
     requires { FitsPanel a.now }
-    ensures { result ≡ rect_of a.now }
+    ensures { result ≡ placed a.now 0 }
 {
     let x = Span {
         low: a.x1 as i32,
@@ -53,46 +53,23 @@ fn rect_of(a: &Placement) -> Rect
         low: a.y1 as i32,
         high: a.y2 as i32,
     };
-    Rect { x, y }
-}
-
-// What a placement asks of the register: whether a laid piece is in its way.
-fn room_for(a: &Placement) -> Question
-    requires { FitsPanel a.now }
-    ensures { result ≡ room_for a.now }
-{
-    Question {
-        layer: a.layer as u8,
-        net: a.net as u8,
-        reach: 0,
-        space: a.space as u16,
-        area: rect_of(a),
-        laid: true,
-    }
-}
-
-// The piece that a placement asks for.
-fn piece_of(a: &Placement, job: u16) -> Piece
-    requires { FitsPanel a.now }
-    ensures { result ≡ placed a.now job }
-{
     Piece {
         layer: a.layer as u8,
-        rect: rect_of(a),
+        rect: Rect { x, y },
         net: a.net as u8,
         space: a.space as u16,
-        job,
+        job: 0,
         mark: Mark::Placed,
     }
 }
 
 impl<K: CostKind, R: Register> Panel<K, R> {
     /// Places one piece, and answers its job number.
+    #[tactic(auto, using(crate::proofs::Placing::placing_laws))]
     pub fn place(&mut self, a: &Placement) -> Result<u16, Refusal>
-        ensures answer { PlaceAnswer self.old.sheet (R.Register.places self.old.register) (standing R.Pieces.pieces self.old) a.now result }
-        ensures stands { standing R.Pieces.pieces self.new ≡ after_place (standing R.Pieces.pieces self.old) a.now result }
-        ensures clearance { T (in_order (R.Pieces.pieces self.old.register)) → T (in_order (R.Pieces.pieces self.new.register)) }
-        ensures setup { SameSetup R.Register.places self.old self.new }
+        ensures answer { PlaceAnswer self.old.sheet self.old.places self.old.standing a.now result }
+        ensures stands { self.new ≡ leaving (after_place self.old.standing a.now result) self.old }
+        ensures clearance { T (in_order self.new.standing.pieces) }
     {
         if !self.sheet.has_layer(a.layer) {
             return Err(Refusal::LayerRange);
@@ -103,24 +80,25 @@ impl<K: CostKind, R: Register> Panel<K, R> {
         if !self.sheet.well_placed(a) {
             return Err(Refusal::OffPanel);
         }
-        if let Some(job) = self.register.in_the_way(&room_for(a)) {
+        let piece = piece_of(a);
+        if let Some(job) = self.register.in_the_way(&room_of(&piece)) {
             return Err(Refusal::InTheWay(job as u32));
         }
         if self.register.free() < 1 {
             return Err(Refusal::TooFewPlaces(1));
         }
         let job = self.last.checked_add(1).ok_or(Refusal::JobsUsedUp)?;
-        self.register.add(piece_of(a, job)).unwrap();
+        self.register.add(Piece { job, ..piece }).unwrap();
         self.last = job;
         Ok(job)
     }
 
     /// Takes out all pieces of a job, and answers how many went.
+    #[tactic(auto, using(crate::proofs::Lifting::lifting_laws))]
     pub fn lift(&mut self, job: u32) -> Result<usize, Refusal>
-        ensures answer { LiftAnswer (standing R.Pieces.pieces self.old) job result }
-        ensures stands { standing R.Pieces.pieces self.new ≡ after_lift (standing R.Pieces.pieces self.old) job result }
-        ensures clearance { T (in_order (R.Pieces.pieces self.old.register)) → T (in_order (R.Pieces.pieces self.new.register)) }
-        ensures setup { SameSetup R.Register.places self.old self.new }
+        ensures answer { LiftAnswer self.old.standing job result }
+        ensures stands { self.new ≡ leaving (after_lift self.old.standing job result) self.old }
+        ensures clearance { T (in_order self.new.standing.pieces) }
     {
         let count = self.register.take_out(job);
         if count == 0 {

@@ -1,7 +1,6 @@
 // Runs of calls on one panel, from its opening on.
 ghost use Rattle.std.specs.Prelude.{◌≡◌, IfOk};
 ghost use Rattle.panel.specs.Runs.{RunsKeepThePromise, Made, Driven};
-ghost use Rattle.panel.specs.Panels.{standing, SameSetup};
 
 use crate::calls::{Answer, Call, Done};
 use crate::panel::Panel;
@@ -13,8 +12,7 @@ use std::alloc::{AllocError, Global};
 impl<K: CostKind, R: Register> Panel<K, R> {
     /// Makes one call.
     pub fn make(&mut self, call: &Call) -> Answer
-        ensures made { Made self.old.sheet (R.Register.places self.old.register) (standing R.Pieces.pieces self.old) call.now result (standing R.Pieces.pieces self.new) }
-        ensures setup { SameSetup R.Register.places self.old self.new }
+        ensures { Made self.old call.now result self.new }
     {
         match call {
             Call::Place(a) => self.place(a).map(Done::Placed),
@@ -24,6 +22,7 @@ impl<K: CostKind, R: Register> Panel<K, R> {
 }
 
 /// However a panel is used from its opening on, different nets keep their clearance: for every kind of cost and every register.
+#[tactic(auto, using(crate::proofs::Keeping::runs_keep))]
 pub fn promise_over_runs<K: CostKind, R: Register>()
     ensures { (register : R) → RunsKeepThePromise (R.Register.places register) }
 {}
