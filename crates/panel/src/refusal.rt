@@ -25,7 +25,7 @@ pub enum Refusal {
 }
 
 /// Why a setting of a sheet or of its price list is refused.
-#[derive(Clone, Copy, Debug, PartialEq)]
+#[derive(Clone, Copy, Debug, PartialEq, Eq)]
 pub enum SheetRefusal {
     Size,
     Prices(RowRefusal),
