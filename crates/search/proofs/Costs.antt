@@ -1,35 +1,31 @@
 -- From drawn lines to a grid, and from its answer to that of the request. Assumes nothing.
-use Rattle.std.proofs.Common.{◌≡◌, ℕ, ◌-◌, ◌≤◌, ◌&&◌, T, leb, List, length, get_or, take, sym, ◌∙◌, subst, arith, leb→le, length-take}
+use Rattle.std.proofs.Common.{◌≡◌, ℕ, ◌-◌, ◌≤◌, ◌&&◌, T, leb, List, length, get_or, take, Ok, Err, Option, Result, sym, ◌∙◌, subst, arith, leb→le, length-take}
 use Rattle.costs.specs.Amounts.{Tariff}
 use Rattle.geometry.specs.declared.piece.Piece.{Piece}
 use Rattle.geometry.specs.Lists.{all_of}
 use Rattle.routes.proofs.Bools.{left, right}
-use Rattle.search.specs.declared.outcome.Outcome.{Outcome}
-use Rattle.search.specs.declared.outcome.Outcome.TheVariants.{Cost, NoPath, Refused}
+use Rattle.search.specs.declared.request.Refusal.{Refusal}
 use Rattle.search.specs.declared.request.Refusal.TheVariants.{Improper, ShortLists, TooManyLines, ShortNodes}
 use Rattle.search.specs.declared.request.Request.{Request}
 use Rattle.search.specs.Drawing.{ToldLines}
 use Rattle.search.specs.Requests.{proper, sized, on_the_panel}
-use Rattle.search.specs.Told.{LinesOf, Passed, ToldPath, ToldCost, refused_early}
+use Rattle.search.specs.Told.{LinesOf, Passed, ToldPath, ToldCost, is_early}
 use Rattle.search.proofs.Leasts.{lines_below}
 
 -- the first n of a list, as a part of it is written
 module _ (ls out : List ℕ) (n : ℕ) (told : ToldLines ls out n) where
-  whole : n - 0 ≡ n
-  whole = omega arith
+  pub part_long : n ≡ length (take n out)
+  part_long = sym (length-take n out ∙ omega (arith, told.inside))
 
-  pub part_long : n ≡ length (take (n - 0) out)
-  part_long = sym (length-take (n - 0) out ∙ omega (arith, told.inside))
-
-  pub part_lines : LinesOf ls (take (n - 0) out)
-  part_lines = subst (λ k. LinesOf ls (take k out)) (sym whole) (record {
+  pub part_lines : LinesOf ls (take n out)
+  part_lines = record {
     number = length-take n out ∙ omega (arith, told.inside, told.number);
     climbs = told.climbs;
     same = told.same;
-  })
+  }
 
-  pub part_near : (size : ℕ) → T (all_of (λ v. leb v size) ls) → size ≤ 60000 → (i : ℕ) → get_or (take (n - 0) out) i 0 ≤ 60000
-  part_near size on small i = omega (arith, lines_below ls (take (n - 0) out) size part_lines.same on i)
+  pub part_near : (size : ℕ) → T (all_of (λ v. leb v size) ls) → size ≤ 60000 → (i : ℕ) → get_or (take n out) i 0 ≤ 60000
+  part_near size on small i = omega (arith, lines_below ls (take n out) size told.same on i)
 
 module _ (q : Request) (is_proper : T (proper q)) where
   sizes : T (sized q)
@@ -43,19 +39,17 @@ module _ (q : Request) (is_proper : T (proper q)) where
       (right (leb q.width 60000) (leb q.height 60000 && leb q.layers 8) sizes))
 
 module _ {C M : Type 0} (tf : Tariff M) (means : C → M) (q : Request) (ps : List Piece) (j k k' notes entries : ℕ) where
-  pub told_cost : (r : Outcome C) → Passed q ps j k k' → ToldPath tf means q ps notes entries r
+  pub told_cost : (r : Result (Option C) Refusal) → Passed q ps j k k' → ToldPath tf means q ps notes entries r
       → ToldCost tf means q ps j k k' notes entries r
-  told_cost (Cost a) p t = (p, t)
-  told_cost NoPath p t = (p, t)
-  told_cost (Refused Improper) p t = absurd t
-  told_cost (Refused (ShortLists n)) p t = absurd t
-  told_cost (Refused TooManyLines) p t = absurd t
-  told_cost (Refused (ShortNodes n)) p t = (p, t)
+  told_cost (Ok o) p t = (p, t)
+  told_cost (Err Improper) p t = absurd t
+  told_cost (Err (ShortLists n)) p t = absurd t
+  told_cost (Err TooManyLines) p t = absurd t
+  told_cost (Err (ShortNodes n)) p t = (p, t)
 
-  pub not_early : (r : Outcome C) → ToldPath tf means q ps notes entries r → T (refused_early r) → ⊥
-  not_early (Cost a) t e = e
-  not_early NoPath t e = e
-  not_early (Refused Improper) t e = t
-  not_early (Refused (ShortLists n)) t e = t
-  not_early (Refused TooManyLines) t e = t
-  not_early (Refused (ShortNodes n)) t e = e
+  pub not_early : (r : Result (Option C) Refusal) → ToldPath tf means q ps notes entries r → T (is_early r) → ⊥
+  not_early (Ok o) t e = e
+  not_early (Err Improper) t e = t
+  not_early (Err (ShortLists n)) t e = t
+  not_early (Err TooManyLines) t e = t
+  not_early (Err (ShortNodes n)) t e = e

@@ -1,14 +1,20 @@
 -- How many numbers are in a list without repeats. Assumes nothing.
-use Rattle.std.proofs.Common.{◌≡◌, ℕ, zero, suc, ◌+◌, ◌*◌, ◌<◌, ◌≤◌, Bool, true, false, cond, not, ◌||◌, T, eqb, ltb, List, [], ◌∷◌, length, get_or, take, filter, sym, refl, ap, ◌∙◌, subst, inl, inr, arith, eqb→eq, length-take, le-ltb}
+use Rattle.std.proofs.Common.{◌≡◌, ℕ, zero, suc, ◌+◌, ◌*◌, ◌<◌, ◌≤◌, Bool, true, false, cond, not, ◌||◌, T, eqb, ltb, List, [], ◌∷◌, length, get_or, take, filter, Some, None, Option, sym, refl, ap, ◌∙◌, subst, inl, inr, arith, eqb→eq, length-take, eqb-true, lt-ltb}
 use lib.Dec.{eqb_refl}
-use Rattle.std.specs.List.{ContainsAt as Has, AllByRecursion}
+use Rattle.std.specs.Option.{IfSome, ok_or}
+use Rattle.std.specs.List.{ContainsAt as Has, AllByRecursion, position, position_or_len}
 use Rattle.std.specs.List.Sorted.{IsPermutation}
+use Rattle.std.proofs.lemmas.List.Sums.{prefix_len_passes}
+use Rattle.std.proofs.lemmas.List.Quantifiers.{position-Some}
+use Rattle.std.proofs.lemmas.Bool.{cases_lt}
 use Rattle.geometry.specs.Lists.{mem, distinct}
-use Rattle.queue.specs.Distinct.{Climbs, MoreThan, Collected, allowed}
+use Rattle.queue.specs.Distinct.{Climbs, MoreThan, Collected, Drained, allowed}
 use Rattle.queue.proofs.Uses.{collected_shuffled, more_than_shuffled}
 use Rattle.routes.proofs.Bools.{either, first, second}
 use Rattle.routes.proofs.Listed.{mem_distinct}
-use Rattle.search.specs.Drawing.{ToldLines, short_lists}
+use Rattle.search.specs.declared.lines.Undrawn.TheVariants.{TooManyLines}
+use Rattle.search.specs.Located.{AtPlace}
+use Rattle.search.specs.Drawing.{ToldLines, ToldDrawn}
 
 -- membership by a test and by a place
 
@@ -23,6 +29,23 @@ pub place_mem : (n : ℕ) (ns : List ℕ) (k : ℕ) → k < length ns → get_or
 place_mem n [] k h e = absurd (omega arith)
 place_mem n (m ∷ ns) zero h e = first (eqb n m) (mem n ns) (subst (λ v. T (eqb n v)) (sym e) (eqb_refl n))
 place_mem n (m ∷ ns) (suc k) h e = second (eqb n m) (mem n ns) (place_mem n ns k (omega arith) e)
+
+-- the first place of a number
+
+pub found_place : (n : ℕ) (ns : List ℕ) (i : ℕ) → Some i ≡ position (λ x. eqb x n) ns → AtPlace ns n i
+found_place n ns i e =
+    let s = position-Some (λ x. eqb x n) ns i 0 (sym e) in
+    record { inside = s.0; is = eqb-true (get_or ns i 0) n s.1 }
+
+pub no_place : (n : ℕ) (ns : List ℕ) → None ≡ position (λ x. eqb x n) ns → T (mem n ns) → ⊥
+no_place n ns e h =
+    let place = position_or_len (λ x. eqb x n) ns in
+    let p = mem_place n ns h in
+    elim (cases_lt place (length ns)) [
+      | inl l ↦ absurd (let some : None ≡ Some place = e ∙ ap (λ b. cond b (Some place) None) (lt-ltb place (length ns) l) in
+          let z : ◌≡◌ {A = ℕ} 0 1 = cc in omega arith)
+      | inr l ↦ let f = prefix_len_passes (λ x. not (eqb x n)) ns p.0 0 (omega (arith, p.1, l)) in grind (arith, f, p.2)
+    ]
 
 pub has_mem : (n : ℕ) (ns : List ℕ) → Has ns n → T (mem n ns)
 has_mem n ns h = place_mem n ns h.0 h.1 (h.2 0)
@@ -147,24 +170,15 @@ too_many xs m =
     λ v h. mem_distinct v xs (has_mem v xs (mem_has_all (Has xs) m.some v m.among h)) in
     omega (arith, m.count, no_more m.some (distinct xs) (climbs_once m.some m.climbs) up)
 
--- where the lists are long enough
-
-pub not_short : (m j k : ℕ) → 4 * m + 2 ≤ j → 1024 ≤ k → false ≡ short_lists m j k
-not_short m j k h h' =
-    let a : ltb j (4 * m + 2) ≡ false = le-ltb j (4 * m + 2) h in
-    let b : ltb k 1024 ≡ false = le-ltb k 1024 h' in
-    sym (ap (λ v. v || ltb k 1024) a ∙ b)
-
 -- what is drawn where the coordinates of the lines were put into an empty queue
 module _ (xs ws old out : List ℕ) (put : IsPermutation xs ws) (long : 1024 ≤ length old) (kept : 1024 ≤ length out) where
   most : allowed 1024 old ≡ 1024
   most = omega arith
 
-  pub drawn_lines : (n : ℕ) → n ≤ allowed 1024 old → Collected (allowed 1024 old) ws (take n out) → ToldLines (distinct xs) out n
-  drawn_lines n few c =
+  pub told_drawn : (r : Option ℕ) → IfSome r (λ n. n ≤ allowed 1024 old) → Drained (allowed 1024 old) ws out r
+      → ToldDrawn (distinct xs) out (ok_or r TooManyLines)
+  told_drawn (Some n) few c =
       let at_most : n ≤ 1024 = omega (arith, most) in
       told_lines xs out n (collected_shuffled 1024 xs ws (take n out) put (subst (λ v. Collected v ws (take n out)) most c))
       at_most (omega arith)
-
-  pub drawn_too_many : MoreThan (allowed 1024 old) ws → 1024 < length (distinct xs)
-  drawn_too_many m = too_many xs (more_than_shuffled 1024 xs ws put (subst (λ v. MoreThan v ws) most m))
+  told_drawn None few m = too_many xs (more_than_shuffled 1024 xs ws put (subst (λ v. MoreThan v ws) most m))

@@ -6,7 +6,7 @@ use Rattle.costs.specs.Amounts.{Sums, Laws, Prices, Tariff, tariff}
 use Rattle.frontier.specs.declared.note.Note.{Note}
 use Rattle.frontier.specs.Held.{marks, Traced}
 use Rattle.frontier.proofs.Trails.{turned, trail_route}
-use Rattle.frontier.specs.Routes.{Route, LeastCost, HasNoRoute}
+use Rattle.frontier.specs.Routes.{Search, Route, LeastCost, HasNoRoute}
 use Rattle.geometry.specs.declared.piece.Piece.{Piece}
 use Rattle.geometry.specs.declared.point.Point.{Point}
 use Rattle.geometry.specs.Lists.{all_of, mem}
@@ -21,12 +21,15 @@ use Rattle.routes.proofs.Listed.{all_of_from, mem_in, mem_distinct}
 use Rattle.routes.proofs.Paths.{line_routes_are_unit_routes}
 use Rattle.routes.proofs.Suffice.{least_on_lines_is_least, no_line_route_no_path}
 use Rattle.search.specs.declared.grid.Grid.{Grid}
+use Rattle.search.specs.declared.request.Axis.{Axis}
+use Rattle.search.specs.declared.request.Axis.TheVariants.{X, Y}
+use Rattle.search.specs.declared.request.Extent.{Extent}
 use Rattle.search.specs.declared.request.Request.{Request}
-use Rattle.search.specs.Axes.{extent_coordinates}
+use Rattle.search.specs.Axes.{extent_coordinates, extent_lines}
 use Rattle.search.specs.Located.{NodeOf, NoNode}
 use Rattle.search.specs.Grids.{grid_point, grid_rules, joins}
 use Rattle.search.specs.Nodes.{node_total}
-use Rattle.search.specs.Requests.{proper, sized, on_the_panel, x_extent, y_extent, request_rules, request_X, request_Y, request_nodes}
+use Rattle.search.specs.Requests.{proper, sized, on_the_panel, extent, request_rules, request_lines, request_nodes}
 use Rattle.search.specs.Told.{GridOf, LeastPath, Led}
 use Rattle.search.proofs.Counting.{place_mem, mem_place}
 use Rattle.search.proofs.Leading.{Apart, apart_turned, no_cross, trail_apart, trail_turned, points_apart}
@@ -76,40 +79,38 @@ module _ (q : Request) (is_proper : T (proper q)) where
   y_of : (p : Point) → T (on_the_panel q p) → p.y ≤ q.height
   y_of p h = leb→le p.y q.height (right (leb p.x q.width) (leb p.y q.height) (right (ranges 1 q.layers p.layer) _ h))
 
-  pub XOn : (ps : List Piece) → T (all_of (λ n. leb n q.width) (request_X q ps))
-  XOn ps = lines_lie_on_the_panel (λ r. r.x) q.width q.class q.net ps q.first.x q.second.x
+  pub lines_on : (a : Axis) (ps : List Piece) → T (all_of (λ n. leb n (extent q a).size) (request_lines q a ps))
+  lines_on X ps = lines_lie_on_the_panel (λ r. r.x) q.width q.class q.net ps q.first.x q.second.x
       (x_of q.first first_on) (x_of q.second second_on)
-
-  pub YOn : (ps : List Piece) → T (all_of (λ n. leb n q.height) (request_Y q ps))
-  YOn ps = lines_lie_on_the_panel (λ r. r.y) q.height q.class q.net ps q.first.y q.second.y
+  lines_on Y ps = lines_lie_on_the_panel (λ r. r.y) q.height q.class q.net ps q.first.y q.second.y
       (y_of q.first first_on) (y_of q.second second_on)
 
 -- the lines of a request's grid ascend and lie on the panel
-pub ruled_grid : {K P : Type 0} (q : Request) → T (proper q) → (ps : List Piece) (g : Grid K P) → GridOf q ps g → Ruled g
-ruled_grid q is_proper ps g of = record {
+pub ruled_grid : {K P : Type 0} (ps : List Piece) (g : Grid K P) → T (proper g.request) → GridOf ps g → Ruled g
+ruled_grid ps g is_proper of = record {
   Xs = of.across.climbs;
   Ys = of.upright.climbs;
-  right = subst (λ w. (i : ℕ) → get_or g.xs.now i 0 ≤ w) (sym of.width_is)
-      (lines_below (request_X q ps) g.xs.now q.width of.across.same (XOn q is_proper ps));
-  top = subst (λ h. (i : ℕ) → get_or g.ys.now i 0 ≤ h) (sym of.height_is)
-      (lines_below (request_Y q ps) g.ys.now q.height of.upright.same (YOn q is_proper ps));
+  right = lines_below (request_lines g.request X ps) g.xs.now g.request.width of.across.same (lines_on g.request is_proper X ps);
+  top = lines_below (request_lines g.request Y ps) g.ys.now g.request.height of.upright.same (lines_on g.request is_proper Y ps);
 }
 
-module _ {K P C M : Type 0} (q : Request) (is_proper : T (proper q)) (ps : List Piece) (g : Grid K P) (of : GridOf q ps g)
+module _ {K P C M : Type 0} (ps : List Piece) (g : Grid K P) (is_proper : T (proper g.request)) (of : GridOf ps g)
     (prices : Prices C) (sums : Sums M) (laws : Laws sums) (means : C → M) (from to : ℕ)
-    (from_in : from < node_total g.lattice) (to_in : to < node_total g.lattice)
-    (from_is : grid_point g from ≡ q.first) (to_is : grid_point g to ≡ q.second) where
+    (from_at : NodeOf g g.request.first from) (to_at : NodeOf g g.request.second to) where
+  abbrev q : Request
+  q = g.request
+
   abbrev tf : Tariff M
   tf = tariff sums means prices
 
   abbrev R : Rules
   R = grid_rules ps g
 
-  abbrev X : List ℕ
-  X = g.xs.now
+  abbrev X' : List ℕ
+  X' = g.xs.now
 
-  abbrev Y : List ℕ
-  Y = g.ys.now
+  abbrev Y' : List ℕ
+  Y' = g.ys.now
 
   abbrev s : Point
   s = grid_point g from
@@ -118,80 +119,77 @@ module _ {K P C M : Type 0} (q : Request) (is_proper : T (proper q)) (ps : List 
   t = grid_point g to
 
   abbrev pub ruled : Ruled g
-  ruled = ruled_grid q is_proper ps g of
+  ruled = ruled_grid ps g is_proper of
+
+  -- the graph, from the first terminal
+  abbrev graph : Search M
+  graph = S g ruled ps prices sums means from
 
   -- the rules of the grid are those of the request
   rules_same : R ≡ request_rules q ps
-  rules_same = λ i.
-      rules_of (of.width_is i) (of.height_is i) (of.layers_is i) (of.class_is i) (of.net_is i) ps
+  rules_same = λ i. rules_of q.width q.height (of.layers_is i) q.class q.net ps
 
-  enough : T (enough_lines q.width q.height q.class q.net ps q.first q.second X Y)
-  enough = both _ _ (all_among (request_X q ps) X of.across.same) (all_among (request_Y q ps) Y of.upright.same)
+  enough : T (enough_lines q.width q.height q.class q.net ps q.first q.second X' Y')
+  enough = both _ _ (all_among (request_lines q X ps) X' of.across.same) (all_among (request_lines q Y ps) Y' of.upright.same)
 
-  enough_here : T (enough_lines g.width g.height g.class g.net ps s t X Y)
-  enough_here =
-      subst T (λ i. enough_lines (sym of.width_is i) (sym of.height_is i) (sym of.class_is i) (sym of.net_is i) ps
-      (sym from_is i) (sym to_is i) X Y) enough
+  enough_here : T (enough_lines q.width q.height q.class q.net ps s t X' Y')
+  enough_here = subst T (λ i. enough_lines q.width q.height q.class q.net ps (sym from_at.is i) (sym to_at.is i) X' Y') enough
 
   line_route : (nodes : List ℕ) (a : M) → (f : Followed g ruled ps prices sums means from from nodes to a)
-      → LineRoute R X Y s t f.moves
+      → LineRoute R X' Y' s t f.moves
   line_route nodes a f = record {
-    starts = point_inside g ruled ps prices sums means from from from_in;
+    starts = point_inside g ruled ps prices sums means from from from_at.inside;
     on_lines = f.on_lines;
     is_lawful = f.is_lawful;
     ends = f.ends;
   }
 
   -- every lawful route along the lines is a route of the graph
-  as_route : (r : List Move) → LineRoute R X Y s t r
-      → (nodes : List ℕ) × Route (S g ruled ps prices sums means from) from nodes to (cost tf s r)
+  as_route : (r : List Move) → LineRoute R X' Y' s t r → (nodes : List ℕ) × Route graph from nodes to (cost tf s r)
   as_route r line =
-      let b = trace_back g ruled ps prices sums means from from r from_in line.on_lines line.is_lawful in
-      let there : b.to ≡ to = same_node g ruled b.to to b.stays to_in (sym b.ends ∙ line.ends) in
-      (b.nodes, subst (λ w. Route (S g ruled ps prices sums means from) from b.nodes w (cost tf s r)) there b.route)
+      let b = trace_back g ruled ps prices sums means from from r from_at.inside line.on_lines line.is_lawful in
+      let there : b.to ≡ to = same_node g ruled b.to to b.stays to_at.inside (sym b.ends ∙ line.ends) in
+      (b.nodes, subst (λ w. Route graph from b.nodes w (cost tf s r)) there b.route)
 
-  least_here : (a : M) → LeastCost (S g ruled ps prices sums means from) to a → LeastPath tf R s t a
+  least_here : (a : M) → LeastCost graph to a → LeastPath tf R s t a
   least_here a l =
-      let f = follow g ruled ps prices sums means from from l.nodes to a from_in l.route in
-      let u = line_routes_are_unit_routes sums laws tf.prices g.width g.height g.lattice.layers g.class g.net ps s t X Y
+      let f = follow g ruled ps prices sums means from from l.nodes to a from_at.inside l.route in
+      let u = line_routes_are_unit_routes sums laws tf.prices q.width q.height g.lattice.layers q.class q.net ps s t X' Y'
       f.moves (line_route l.nodes a f) in
       record {
         moves = u.0;
         path = u.1;
         costs = u.2 ∙ f.costs;
-        least = least_on_lines_is_least sums laws tf.prices g.width g.height g.lattice.layers g.class g.net ps s t X Y
+        least = least_on_lines_is_least sums laws tf.prices q.width q.height g.lattice.layers q.class q.net ps s t X' Y'
             enough_here a (λ r line. let n = as_route r line in l.lowest n.0 (cost tf s r) n.1);
       }
 
-  pub least_path : (a : M) → LeastCost (S g ruled ps prices sums means from) to a
-      → LeastPath tf (request_rules q ps) q.first q.second a
-  least_path a l = subst (λ v. v) (λ i. LeastPath tf (rules_same i) (from_is i) (to_is i) a) (least_here a l)
+  pub least_path : (a : M) → LeastCost graph to a → LeastPath tf (request_rules q ps) q.first q.second a
+  least_path a l = subst (λ v. v) (λ i. LeastPath tf (rules_same i) (from_at.is i) (to_at.is i) a) (least_here a l)
 
-  no_path_here : HasNoRoute (S g ruled ps prices sums means from) to → HasNoPath R s t
+  no_path_here : HasNoRoute graph to → HasNoPath R s t
   no_path_here none =
-      no_line_route_no_path g.width g.height g.lattice.layers g.class g.net ps s t X Y enough_here
+      no_line_route_no_path q.width q.height g.lattice.layers q.class q.net ps s t X' Y' enough_here
       (λ r line. let n = as_route r line in none n.0 (cost tf s r) n.1)
 
-  pub no_path : HasNoRoute (S g ruled ps prices sums means from) to → HasNoPath (request_rules q ps) q.first q.second
-  no_path none = subst (λ v. v) (λ i. HasNoPath (rules_same i) (from_is i) (to_is i)) (no_path_here none)
+  pub no_path : HasNoRoute graph to → HasNoPath (request_rules q ps) q.first q.second
+  no_path none = subst (λ v. v) (λ i. HasNoPath (rules_same i) (from_at.is i) (to_at.is i)) (no_path_here none)
 
   -- the notes lead back along a least-cost path
-  pub led : (notes : List (Note C)) (a : M) → LeastCost (S g ruled ps prices sums means from) to a
-      → Traced (S g ruled ps prices sums means from) means notes to a → Led tf q ps g notes a from to
+  led : (notes : List (Note C)) (a : M) → LeastCost graph to a → Traced graph means notes to a → Led tf ps g notes a from to
   led notes a least traced =
-      let search = S g ruled ps prices sums means from in
       let f = marks means notes in
       let back = traced.back in
       let nodes = turned to back [] in
       let all = reverse (to ∷ back) in
-      let turn : all ≡ from ∷ nodes = trail_turned search f back to a [] traced.trail in
-      let way = follow g ruled ps prices sums means from from nodes to a from_in (trail_route search laws f back to a traced.trail) in
+      let turn : all ≡ from ∷ nodes = trail_turned graph f back to a [] traced.trail in
+      let way = follow g ruled ps prices sums means from from nodes to a from_at.inside (trail_route graph laws f back to a traced.trail) in
       let are : way.moves ≡ joins (map (grid_point g) all) = way.are ∙ ap (λ ns. joins (map (grid_point g) ns)) (sym turn) in
       let apart : Apart (from ∷ nodes) =
-      subst Apart turn (apart_turned back to [] (trail_apart search f back to a traced.trail) tt (no_cross (to ∷ back))) in
+      subst Apart turn (apart_turned back to [] (trail_apart graph f back to a traced.trail) tt (no_cross (to ∷ back))) in
       let once : T (none_twice (map (grid_point g) (from ∷ nodes))) =
-      points_apart (grid_point g) (node_total g.lattice) (same_node g ruled) (from ∷ nodes) (from_in, way.stay) apart in
-      let path : LinePath tf R X Y s t way.moves = record {
+      points_apart (grid_point g) (node_total g.lattice) (same_node g ruled) (from ∷ nodes) (from_at.inside, way.stay) apart in
+      let path : LinePath tf R X' Y' s t way.moves = record {
         route = line_route nodes a way;
         simple = subst (λ ps. T (none_twice (s ∷ ps))) (sym way.visits) once;
         least = subst (λ m. NoneCheaper R tf s t m) (sym way.costs) (least_here a least).least;
@@ -200,41 +198,47 @@ module _ {K P C M : Type 0} (q : Request) (is_proper : T (proper q)) (ps : List 
         back = back;
         leads = traced.leads;
         few = traced.few;
-        path = subst (λ ms. LinePath tf (request_rules q ps) X Y q.first q.second ms) are
-            (subst (λ v. v) (λ i. LinePath tf (rules_same i) X Y (from_is i) (to_is i) way.moves) path);
-        costs = subst (λ ms. cost tf q.first ms ≡ a) are (subst (λ p. cost tf p way.moves ≡ a) from_is way.costs);
+        path = subst (λ ms. LinePath tf (request_rules q ps) X' Y' q.first q.second ms) are
+            (subst (λ v. v) (λ i. LinePath tf (rules_same i) X' Y' (from_at.is i) (to_at.is i) way.moves) path);
+        costs = subst (λ ms. cost tf q.first ms ≡ a) are (subst (λ p. cost tf p way.moves ≡ a) from_at.is way.costs);
       }
 
+  -- from whatever number the first terminal's node has to that of the second's
+  pub led_back : (notes : List (Note C)) (a : M) → LeastCost graph to a → Traced graph means notes to a
+      → (u w : ℕ) → NodeOf g q.first u → NodeOf g q.second w → Led tf ps g notes a u w
+  led_back notes a least traced u w u_at w_at =
+      let from_is : from ≡ u = same_node g ruled from u from_at.inside u_at.inside (from_at.is ∙ sym u_at.is) in
+      let to_is : to ≡ w = same_node g ruled to w to_at.inside w_at.inside (to_at.is ∙ sym w_at.is) in
+      subst (λ v. v) (λ i. Led tf ps g notes a (from_is i) (to_is i)) (led notes a least traced)
+
 -- the nodes of a grid are those of the request
-pub total_request : {K P : Type 0} (q : Request) (ps : List Piece) (g : Grid K P) → GridOf q ps g
-    → node_total g.lattice ≡ request_nodes q ps
-total_request q ps g of =
+pub total_request : {K P : Type 0} (ps : List Piece) (g : Grid K P) → GridOf ps g → node_total g.lattice ≡ request_nodes g.request ps
+total_request ps g of =
+    let x = request_lines g.request X ps in
+    let y = request_lines g.request Y ps in
     ap (λ n. n * g.lattice.rows * g.lattice.layers) (g.columns ∙ of.across.number)
-    ∙ (ap (λ n. length (request_X q ps) * n * g.lattice.layers) (g.rows ∙ of.upright.number)
-    ∙ ap (λ n. length (request_X q ps) * length (request_Y q ps) * n) of.layers_is)
+    ∙ (ap (λ n. length x * n * g.lattice.layers) (g.rows ∙ of.upright.number) ∙ ap (λ n. length x * length y * n) of.layers_is)
 
 -- both terminals are nodes
-module _ {K P : Type 0} (q : Request) (is_proper : T (proper q)) (ps : List Piece) (g : Grid K P) (of : GridOf q ps g) where
-  found_at : (p : Point) → T (on_the_panel q p) → T (mem p.x (request_X q ps)) → T (mem p.y (request_Y q ps)) → NoNode g p → ⊥
+module _ {K P : Type 0} (ps : List Piece) (g : Grid K P) (is_proper : T (proper g.request)) (of : GridOf ps g) where
+  found_at : (p : Point) → T (on_the_panel g.request p) → T (mem p.x (request_lines g.request X ps))
+      → T (mem p.y (request_lines g.request Y ps)) → NoNode g p → ⊥
   found_at p on x y none =
-      let deep = left (ranges 1 q.layers p.layer) (leb p.x q.width && leb p.y q.height) on in
+      let deepest = g.request.layers in
+      let deep = left (ranges 1 deepest p.layer) (leb p.x g.request.width && leb p.y g.request.height) on in
       none (subst T (sym (of.across.same p.x)) x) (subst T (sym (of.upright.same p.y)) y)
-      (leb→le 1 p.layer (left (leb 1 p.layer) (leb p.layer q.layers) deep))
-      (subst (λ n. p.layer ≤ n) (sym of.layers_is) (leb→le p.layer q.layers (right (leb 1 p.layer) (leb p.layer q.layers) deep)))
+      (leb→le 1 p.layer (left (leb 1 p.layer) (leb p.layer deepest) deep))
+      (subst (λ n. p.layer ≤ n) (sym of.layers_is) (leb→le p.layer deepest (right (leb 1 p.layer) (leb p.layer deepest) deep)))
 
-  pub first_found : NoNode g q.first → ⊥
-  first_found = found_at q.first (first_on q is_proper)
-      (mem_distinct q.first.x (extent_coordinates (x_extent q) q.class q.net ps) (first (eqb q.first.x q.first.x) _ (eqb_refl q.first.x)))
-      (mem_distinct q.first.y (extent_coordinates (y_extent q) q.class q.net ps) (first (eqb q.first.y q.first.y) _ (eqb_refl q.first.y)))
+  first_line : (e : Extent) → T (mem e.first (extent_lines e ps))
+  first_line e = mem_distinct e.first (extent_coordinates e ps) (first (eqb e.first e.first) _ (eqb_refl e.first))
 
-  pub second_found : NoNode g q.second → ⊥
-  second_found = found_at q.second (second_on q is_proper)
-      (mem_distinct q.second.x (extent_coordinates (x_extent q) q.class q.net ps) (second (eqb q.second.x q.first.x) _
-      (first (eqb q.second.x q.second.x) _ (eqb_refl q.second.x))))
-      (mem_distinct q.second.y (extent_coordinates (y_extent q) q.class q.net ps) (second (eqb q.second.y q.first.y) _
-      (first (eqb q.second.y q.second.y) _ (eqb_refl q.second.y))))
+  second_line : (e : Extent) → T (mem e.second (extent_lines e ps))
+  second_line e = mem_distinct e.second (extent_coordinates e ps)
+      (second (eqb e.second e.first) _ (first (eqb e.second e.second) _ (eqb_refl e.second)))
 
--- one node lies at a point
-pub one_node : {K P : Type 0} (q : Request) (is_proper : T (proper q)) (ps : List Piece) (g : Grid K P) (of : GridOf q ps g)
-    (u w : ℕ) {p : Point} → NodeOf g p u → NodeOf g p w → u ≡ w
-one_node q is_proper ps g of u w a b = same_node g (ruled_grid q is_proper ps g of) u w a.inside b.inside (a.is ∙ sym b.is)
+  pub first_found : NoNode g g.request.first → ⊥
+  first_found = found_at g.request.first (first_on g.request is_proper) (first_line (extent g.request X)) (first_line (extent g.request Y))
+
+  pub second_found : NoNode g g.request.second → ⊥
+  second_found = found_at g.request.second (second_on g.request is_proper) (second_line (extent g.request X)) (second_line (extent g.request Y))

@@ -107,19 +107,17 @@ piece_parts : (a : Axis) (far : ℕ) (c : Class) (p : Piece) →
 piece_parts X far c p = refl
 piece_parts Y far c p = refl
 
-pub piece_puts : (e : Extent) (c : Class) (p : Piece) (d : ℕ) (s : Span) (q q' q'' : Queue ℕ) → d ≡ max c.space p.space
-    → s ≡ axis_of e.axis p.rect → Puts (zone_borders e.size (c.half + d) s) q q'
-    → Puts (zone_borders e.size (c.pad + d) s) q' q'' → Puts (piece_borders e c p) q q''
-piece_puts e c p d s q q' q'' d-is s-is wire via =
+pub piece_puts : (e : Extent) (p : Piece) (d : ℕ) (s : Span) (q q' q'' : Queue ℕ) → d ≡ max e.class.space p.space
+    → s ≡ axis_of e.axis p.rect → Puts (zone_borders e.size (e.class.half + d) s) q q'
+    → Puts (zone_borders e.size (e.class.pad + d) s) q' q'' → Puts (piece_borders e p) q q''
+piece_puts e p d s q q' q'' d-is s-is wire via =
     let far = e.size in
-    let D = max c.space p.space in
-    let S = axis_of e.axis p.rect in
+    let c = e.class in
     let both : Puts (on_panel far (two (c.half + d) s ++ two (c.pad + d) s)) q q'' =
     panel_more far (two (c.half + d) s) (two (c.pad + d) s) q q' q'' wire via in
-    let moved : Puts (on_panel far (two (c.half + D) s ++ two (c.pad + D) s)) q q'' =
-    subst (λ v. Puts (on_panel far (two (c.half + v) s ++ two (c.pad + v) s)) q q'') d-is both in
-    let there : Puts (on_panel far (two (c.half + D) S ++ two (c.pad + D) S)) q q'' =
-    subst (λ v. Puts (on_panel far (two (c.half + D) v ++ two (c.pad + D) v)) q q'') s-is moved in
+    let moved = subst (λ v. Puts (on_panel far (two (c.half + v) s ++ two (c.pad + v) s)) q q'') d-is both in
+    let D = max c.space p.space in
+    let there = subst (λ v. Puts (on_panel far (two (c.half + D) v ++ two (c.pad + D) v)) q q'') s-is moved in
     subst (λ ns. Puts ns q q'') (piece_parts e.axis far c p) there
 
 flat_append : {V W : Type 0} (f : V → List W) (xs ys : List V) → flat f (xs ++ ys) ≡ flat f xs ++ flat f ys
@@ -127,43 +125,47 @@ flat_append f [] ys = refl
 flat_append f (x ∷ xs) ys = ap (λ ws. f x ++ ws) (flat_append f xs ys) ∙ sym (append_assoc (f x) (flat f xs) (flat f ys))
 
 -- the borders of one more piece
-pub borders_more : (e : Extent) (c : Class) (net : ℕ) (ps : List Piece) (k : ℕ) (p : Piece) → k < length ps → p ≡ get_or ps k p
-    → all_borders e c net (take (k + 1) ps)
-    ≡ all_borders e c net (take k ps) ++ cond (different_nets p.net net) (piece_borders e c p) []
-borders_more e c net ps k p h is =
-    let f = borders (axis_of e.axis) c in
-    let keep = λ (q : Piece). different_nets q.net net in
+pub borders_more : (e : Extent) (ps : List Piece) (k : ℕ) (p : Piece) → k < length ps → p ≡ get_or ps k p
+    → all_borders e (take (k + 1) ps)
+    ≡ all_borders e (take k ps) ++ cond (different_nets p.net e.net) (piece_borders e p) []
+borders_more e ps k p h is =
+    let f = borders (axis_of e.axis) e.class in
+    let keep = λ (q : Piece). different_nets q.net e.net in
     let last = λ (q : Piece). cond (keep q) (q ∷ []) [] in
-    let split : others net (take (k + 1) ps) ≡ others net (take k ps) ++ last p =
-    filter_more keep ps k p h ∙ ap (λ q. others net (take k ps) ++ last q) (sym is) in
+    let split : others e.net (take (k + 1) ps) ≡ others e.net (take k ps) ++ last p =
+    filter_more keep ps k p h ∙ ap (λ q. others e.net (take k ps) ++ last q) (sym is) in
     ap (λ qs. on_panel e.size (flat f qs)) split
-    ∙ (ap (on_panel e.size) (flat_append f (others net (take k ps)) (last p))
-    ∙ (on_panel_append e.size (flat f (others net (take k ps))) (flat f (last p))
-    ∙ ap (λ ns. all_borders e c net (take k ps) ++ ns) (one (keep p))))
+    ∙ (ap (on_panel e.size) (flat_append f (others e.net (take k ps)) (last p))
+    ∙ (on_panel_append e.size (flat f (others e.net (take k ps))) (flat f (last p))
+    ∙ ap (λ ns. all_borders e (take k ps) ++ ns) (one (keep p))))
   where
-    one : (b : Bool) → on_panel e.size (flat (borders (axis_of e.axis) c) (cond b (p ∷ []) []))
-        ≡ cond b (piece_borders e c p) []
-    one true = ap (on_panel e.size) (append-nil (borders (axis_of e.axis) c p))
+    one : (b : Bool) → on_panel e.size (flat (borders (axis_of e.axis) e.class) (cond b (p ∷ []) []))
+        ≡ cond b (piece_borders e p) []
+    one true = ap (on_panel e.size) (append-nil (borders (axis_of e.axis) e.class p))
     one false = refl
 
-pub piece_few : (e : Extent) (c : Class) (p : Piece) → length (piece_borders e c p) ≤ 4
-piece_few e c p =
-    let h : length (on_panel e.size (borders (axis_of e.axis) c p)) ≤ length (borders (axis_of e.axis) c p) =
-    on_panel_fewer e.size (borders (axis_of e.axis) c p) in omega arith
+pub piece_few : (e : Extent) (p : Piece) → length (piece_borders e p) ≤ 4
+piece_few e p =
+    let h : length (on_panel e.size (borders (axis_of e.axis) e.class p)) ≤ length (borders (axis_of e.axis) e.class p) =
+    on_panel_fewer e.size (borders (axis_of e.axis) e.class p) in omega arith
+
+-- what is put, and the room that is left, where the borders of the first k pieces were put
+pub record PutFirst (e : Extent) (ps : List Piece) (k : ℕ) (q₀ q : Queue ℕ) : Type 0 where
+  pub puts : Puts (all_borders e (take k ps)) q₀ q
+  pub room_left : HasRoom (4 * (length ps - k)) q
 
 -- a turn of a loop over the pieces: the next is p, and its borders are put if its net is different
-pub turn : (e : Extent) (c : Class) (net : ℕ) (ps : List Piece) (k : ℕ) (p : Piece) (b : Bool) (q₀ q q' : Queue ℕ) → k < length ps
-    → p ≡ get_or ps k p → b ≡ different_nets p.net net → Puts (cond b (piece_borders e c p) []) q q'
-    → Puts (all_borders e c net (take k ps)) q₀ q × HasRoom (4 * (length ps - k)) q
-    → Puts (all_borders e c net (take (k + 1) ps)) q₀ q' × HasRoom (4 * (length ps - (k + 1))) q'
-turn e c net ps k p b q₀ q q' h is b_is put before =
-    let ns = cond (different_nets p.net net) (piece_borders e c p) [] in
-    let put' : Puts ns q q' = subst (λ v. Puts (cond v (piece_borders e c p) []) q q') b_is put in
-    let few : length ns ≤ 4 = pick (different_nets p.net net) in (
-      subst (λ v. Puts v q₀ q') (sym (borders_more e c net ps k p h is)) (puts_more q₀ q q' (all_borders e c net (take k ps)) ns before.0 put'),
-      room_left q q' ns (4 * (length ps - k)) (4 * (length ps - (k + 1))) put' before.1 (omega arith),
-    )
+pub turn : (e : Extent) (ps : List Piece) (k : ℕ) (p : Piece) (b : Bool) (q₀ q q' : Queue ℕ) → k < length ps
+    → p ≡ get_or ps k p → b ≡ different_nets p.net e.net → Puts (cond b (piece_borders e p) []) q q'
+    → PutFirst e ps k q₀ q → PutFirst e ps (k + 1) q₀ q'
+turn e ps k p b q₀ q q' h is b_is put before =
+    let ns = cond (different_nets p.net e.net) (piece_borders e p) [] in
+    let put' : Puts ns q q' = subst (λ v. Puts (cond v (piece_borders e p) []) q q') b_is put in
+    let few : length ns ≤ 4 = pick (different_nets p.net e.net) in record {
+      puts = subst (λ v. Puts v q₀ q') (sym (borders_more e ps k p h is)) (puts_more q₀ q q' (all_borders e (take k ps)) ns before.puts put');
+      room_left = room_left q q' ns (4 * (length ps - k)) (4 * (length ps - (k + 1))) put' before.room_left (omega arith);
+    }
   where
-    pick : (v : Bool) → length (cond v (piece_borders e c p) []) ≤ 4
-    pick true = piece_few e c p
+    pick : (v : Bool) → length (cond v (piece_borders e p) []) ≤ 4
+    pick true = piece_few e p
     pick false = omega arith

@@ -1,8 +1,8 @@
 -- What a request asks for, and when it is refused. Assumes nothing.
 --     proper q                  its sizes are in range and its terminals on the panel
---     x_extent q, y_extent q    the request along each axis
+--     extent q a                the request along an axis
 --     request_rules q ps        what the panel allows to it where these pieces stand
---     request_X, request_Y      its lines
+--     request_lines q a ps      its lines along an axis
 --     lists_short m j k k'      the list of coordinates or one of lines is too short, where m pieces stand
 --     many_lines q ps           there are more than 1,024 lines on an axis
 --     request_nodes q ps        how many nodes there are
@@ -11,12 +11,14 @@ use Rattle.std.specs.Prelude.{ℕ, ◌+◌, ◌*◌, Bool, ◌&&◌, ◌||◌, L
 use Rattle.geometry.specs.declared.piece.Piece.{Piece}
 use Rattle.geometry.specs.declared.point.Point.{Point}
 use Rattle.geometry.specs.Ranges.{ranges}
-use Rattle.routes.specs.Lines.{x_lines, y_lines, node_count}
+use Rattle.routes.specs.Lines.{node_count}
 use Rattle.routes.specs.Routes.{Rules}
 use Rattle.routes.specs.Rules.{rules_of}
+use Rattle.search.specs.declared.request.Axis.{Axis}
 use Rattle.search.specs.declared.request.Axis.TheVariants.{X, Y}
 use Rattle.search.specs.declared.request.Extent.{Extent}
 use Rattle.search.specs.declared.request.Request.{Request}
+use Rattle.search.specs.Axes.{extent_lines}
 
 abbrev pub on_the_panel : Request → Point → Bool
 on_the_panel q p = ranges 1 q.layers p.layer && (nat_le p.x q.width && nat_le p.y q.height)
@@ -27,29 +29,24 @@ sized q = nat_le q.width 60000 && (nat_le q.height 60000 && nat_le q.layers 8)
 abbrev pub proper : Request → Bool
 proper q = sized q && (on_the_panel q q.first && on_the_panel q q.second)
 
-abbrev pub x_extent : Request → Extent
-x_extent q = record { axis = X; size = q.width; first = q.first.x; second = q.second.x }
-
-abbrev pub y_extent : Request → Extent
-y_extent q = record { axis = Y; size = q.height; first = q.first.y; second = q.second.y }
+abbrev pub extent : Request → Axis → Extent
+extent q X = record { axis = X; size = q.width; class = q.class; net = q.net; first = q.first.x; second = q.second.x }
+extent q Y = record { axis = Y; size = q.height; class = q.class; net = q.net; first = q.first.y; second = q.second.y }
 
 abbrev pub request_rules : Request → List Piece → Rules
 request_rules q pieces = rules_of q.width q.height q.layers q.class q.net pieces
 
-abbrev pub request_X : Request → List Piece → List ℕ
-request_X q pieces = x_lines q.width q.class q.net pieces q.first.x q.second.x
-
-abbrev pub request_Y : Request → List Piece → List ℕ
-request_Y q pieces = y_lines q.height q.class q.net pieces q.first.y q.second.y
+abbrev pub request_lines : Request → Axis → List Piece → List ℕ
+request_lines q a pieces = extent_lines (extent q a) pieces
 
 abbrev pub lists_short : ℕ → ℕ → ℕ → ℕ → Bool
 lists_short m coordinates xs ys = nat_lt coordinates (4 * m + 2) || (nat_lt xs 1024 || nat_lt ys 1024)
 
 abbrev pub many_lines : Request → List Piece → Bool
-many_lines q pieces = nat_lt 1024 (length (request_X q pieces)) || nat_lt 1024 (length (request_Y q pieces))
+many_lines q pieces = nat_lt 1024 (length (request_lines q X pieces)) || nat_lt 1024 (length (request_lines q Y pieces))
 
 abbrev pub request_nodes : Request → List Piece → ℕ
-request_nodes q pieces = node_count (request_X q pieces) (request_Y q pieces) q.layers
+request_nodes q pieces = node_count (request_lines q X pieces) (request_lines q Y pieces) q.layers
 
 abbrev pub nodes_short : ℕ → ℕ → ℕ → Bool
 nodes_short n notes entries = nat_lt notes n || nat_lt entries (6 * n + 1)

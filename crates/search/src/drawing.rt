@@ -1,10 +1,11 @@
 // The grid of a request, drawn into lent lists.
-ghost use Rattle.std.specs.Prelude.{◌≡◌, ◌≤◌, T, length};
-ghost use Rattle.search.specs.Told.{ToldLattice, is_early};
-ghost use Rattle.search.specs.Requests.{proper, sized, on_the_panel, lists_short, x_extent, y_extent};
+ghost use Rattle.std.specs.Prelude.{◌≡◌, ◌≤◌, T, false, length};
+ghost use Rattle.search.specs.Drawing.{short_lists};
+ghost use Rattle.search.specs.Told.{ToldLattice, ToldAxis, is_early};
+ghost use Rattle.search.specs.Requests.{proper, sized, on_the_panel, lists_short, extent, request_lines};
 
 use crate::lattice::Lattice;
-use crate::lines::{Drawn, LINES, draw_lines};
+use crate::lines::{LINES, draw_lines};
 use crate::request::{Axis, Extent, Refusal, Request};
 use geometry::Point;
 use registers::Pieces;
@@ -31,27 +32,21 @@ impl Request {
         self.is_sized() && self.has(&self.first) && self.has(&self.second)
     }
 
-    /// The request along x.
-    fn across(&self) -> Extent
-        ensures { result ≡ x_extent self.now }
+    /// What the request asks along an axis.
+    fn extent(&self, axis: Axis) -> Extent
+        ensures { result ≡ extent self.now axis }
     {
+        let (size, first, second) = match axis {
+            Axis::X => (self.width, self.first.x, self.second.x),
+            Axis::Y => (self.height, self.first.y, self.second.y),
+        };
         Extent {
-            axis: Axis::X,
-            size: self.width,
-            first: self.first.x,
-            second: self.second.x,
-        }
-    }
-
-    /// The request along y.
-    fn upright(&self) -> Extent
-        ensures { result ≡ y_extent self.now }
-    {
-        Extent {
-            axis: Axis::Y,
-            size: self.height,
-            first: self.first.y,
-            second: self.second.y,
+            axis,
+            size,
+            class: self.class,
+            net: self.net,
+            first,
+            second,
         }
     }
 }
@@ -62,6 +57,23 @@ fn too_short(m: usize, coordinates: usize, xs: usize, ys: usize) -> bool
     ensures { result ≡ lists_short m coordinates xs ys }
 {
     coordinates < 4 * m + 2 || xs < LINES || ys < LINES
+}
+
+/// Draws the lines of a request along an axis into the front of `lines`, and answers how many they are.
+fn draw_axis<P: Pieces>(
+    request: &Request,
+    axis: Axis,
+    register: &P,
+    coordinates: &mut [u32],
+    lines: &mut [u32],
+) -> Result<u32, Refusal>
+    requires { short_lists (length (P.pieces register.now)) (length coordinates.old) (length lines.old) ≡ false }
+    ensures { ToldAxis (request_lines request.now axis (P.pieces register.now)) lines.new result }
+{
+    match draw_lines(&request.extent(axis), register, coordinates, lines) {
+        Ok(count) => Ok(count as u32),
+        Err(_) => Err(Refusal::TooManyLines),
+    }
 }
 
 /// Draws the lines of a request into the fronts of `xs` and `ys`, by way of `coordinates`, and answers how they cross.
@@ -82,34 +94,11 @@ pub(crate) fn draw_lattice<P: Pieces>(
     if too_short(m, coordinates.len(), xs.len(), ys.len()) {
         return Err(Refusal::ShortLists(4 * m + 2));
     }
-    let net = request.net;
-    let columns = match draw_lines(
-        &request.across(),
-        &request.class,
-        net,
-        register,
-        coordinates,
-        xs,
-    ) {
-        Drawn::Lines(n) => n,
-        Drawn::Short => return Err(Refusal::TooManyLines),
-        Drawn::TooMany => return Err(Refusal::TooManyLines),
-    };
-    let rows = match draw_lines(
-        &request.upright(),
-        &request.class,
-        net,
-        register,
-        coordinates,
-        ys,
-    ) {
-        Drawn::Lines(n) => n,
-        Drawn::Short => return Err(Refusal::TooManyLines),
-        Drawn::TooMany => return Err(Refusal::TooManyLines),
-    };
+    let columns = draw_axis(request, Axis::X, register, coordinates, xs)?;
+    let rows = draw_axis(request, Axis::Y, register, coordinates, ys)?;
     Ok(Lattice {
-        columns: columns as u32,
-        rows: rows as u32,
+        columns,
+        rows,
         layers: request.layers,
     })
 }

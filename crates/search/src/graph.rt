@@ -20,12 +20,8 @@ impl<'a, K: CostKind, P: Pieces> Graph<K::Amount> for Grid<'a, K, P> {
 
     fn toward(&self, node: u32, way: u32) -> Option<(u32, K::Amount)> {
         let next = self.lattice.next(node, way)?;
-        let Some(p) = self.point(node) else {
-            return None;
-        };
-        let Some(q) = self.point(next) else {
-            return None;
-        };
+        let p = self.point(node)?;
+        let q = self.point(next)?;
         Some((next, self.price(&p, &q)))
     }
 

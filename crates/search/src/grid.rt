@@ -2,17 +2,14 @@
 ghost use Rattle.std.specs.Prelude.{◌≡◌, ℕ, ◌≤◌, length, slice_index};
 
 use crate::lattice::Lattice;
-use geometry::Class;
+use crate::request::Request;
 
 /// The crossings of a request's lines, with the kind of its cost and the pieces that stand. A line lies on the largest panel, so
 /// that no move is longer than 60,000 units.
 #[derive(Drop)]
 pub struct Grid<'a, K, P> {
-    pub width: u32,
-    pub height: u32,
+    pub request: Request,
     pub lattice: Lattice,
-    pub class: Class,
-    pub net: u8,
     pub kind: K,
     pub xs: &'a [u32],
     pub ys: &'a [u32],

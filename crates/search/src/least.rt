@@ -2,11 +2,10 @@
 ghost use Rattle.std.specs.Prelude.{◌≡◌, true, T, length};
 ghost use Rattle.costs.specs.Amounts.{tariff};
 ghost use Rattle.search.specs.Requests.{proper, nodes_short};
-ghost use Rattle.search.specs.Told.{GridOf, LedBack, ToldPath, ToldCost, refused_early};
+ghost use Rattle.search.specs.Told.{GridOf, LedBack, ToldPath, ToldCost, is_early};
 
 use crate::drawing::draw_lattice;
 use crate::grid::Grid;
-use crate::outcome::Outcome;
 use crate::request::{Refusal, Request};
 use costs::CostKind;
 use frontier::{Entry, Found, Graph, Note, find_least};
@@ -20,37 +19,36 @@ fn nodes_short(n: u32, notes: usize, entries: usize) -> bool
 }
 
 impl<'a, K: CostKind, P: Pieces> Grid<'a, K, P> {
-    /// The least cost of a lawful path between the terminals of the request that the grid is of.
+    /// The least cost of a lawful path between the terminals of the grid's request, absent if there is no such path.
     pub(crate) fn find_path(
         &self,
-        request: &Request,
         nodes: &mut [Note<K::Amount>],
         frontier: &mut [Entry<K::Amount>],
-    ) -> Outcome<K::Amount>
-        ensures answer { proper request.now ≡ true → GridOf request.now (P.Pieces.pieces self.now.register.now) self.now
-            → ToldPath (tariff K.Amount.Amount.sums K.Amount.Amount.means (K.CostKind.prices self.now.kind)) K.Amount.Amount.means request.now (P.Pieces.pieces self.now.register.now) (length nodes.old) (length frontier.old) result }
-        ensures led { proper request.now ≡ true → GridOf request.now (P.Pieces.pieces self.now.register.now) self.now
-            → LedBack (tariff K.Amount.Amount.sums K.Amount.Amount.means (K.CostKind.prices self.now.kind)) K.Amount.Amount.means request.now (P.Pieces.pieces self.now.register.now) self.now nodes.new result }
+    ) -> Result<Option<K::Amount>, Refusal>
+        ensures answer { proper self.now.request ≡ true → GridOf (P.Pieces.pieces self.now.register.now) self.now
+            → ToldPath (tariff K.Amount.Amount.sums K.Amount.Amount.means (K.CostKind.prices self.now.kind)) K.Amount.Amount.means self.now.request (P.Pieces.pieces self.now.register.now) (length nodes.old) (length frontier.old) result }
+        ensures led { proper self.now.request ≡ true → GridOf (P.Pieces.pieces self.now.register.now) self.now
+            → LedBack (tariff K.Amount.Amount.sums K.Amount.Amount.means (K.CostKind.prices self.now.kind)) K.Amount.Amount.means (P.Pieces.pieces self.now.register.now) self.now nodes.new result }
     {
         let n = self.lattice.size();
         if nodes_short(n, nodes.len(), frontier.len()) {
-            return Outcome::Refused(Refusal::ShortNodes(n));
+            return Err(Refusal::ShortNodes(n));
         }
-        let Some(from) = self.node(&request.first) else {
-            return Outcome::NoPath;
+        let Some(from) = self.node(&self.request.first) else {
+            return Ok(None);
         };
-        let Some(to) = self.node(&request.second) else {
-            return Outcome::NoPath;
+        let Some(to) = self.node(&self.request.second) else {
+            return Ok(None);
         };
         match find_least(self, from, to, nodes, frontier) {
-            Found::Least(amount) => Outcome::Cost(amount),
-            Found::NoRoute => Outcome::NoPath,
-            Found::Refused => Outcome::Refused(Refusal::ShortNodes(n)),
+            Found::Least(amount) => Ok(Some(amount)),
+            Found::NoRoute => Ok(None),
+            Found::Refused => Err(Refusal::ShortNodes(n)),
         }
     }
 }
 
-/// The least cost of a lawful path between the terminals of a request, by way of the lent lists.
+/// The least cost of a lawful path between the terminals of a request, by way of the lent lists; absent if there is no such path.
 pub fn least_cost<K: CostKind, P: Pieces>(
     request: &Request,
     kind: K,
@@ -60,26 +58,20 @@ pub fn least_cost<K: CostKind, P: Pieces>(
     ys: &mut [u32],
     nodes: &mut [Note<K::Amount>],
     frontier: &mut [Entry<K::Amount>],
-) -> Outcome<K::Amount>
+) -> Result<Option<K::Amount>, Refusal>
     ensures answer { ToldCost (tariff K.Amount.Amount.sums K.Amount.Amount.means (K.CostKind.prices kind)) K.Amount.Amount.means request.now (P.Pieces.pieces register.now)
         (length coordinates.old) (length xs.old) (length ys.old) (length nodes.old) (length frontier.old) result }
-    ensures unchanged { T (refused_early result) → (coordinates.new ≡ coordinates.old) × (xs.new ≡ xs.old) × (ys.new ≡ ys.old)
+    ensures unchanged { T (is_early result) → (coordinates.new ≡ coordinates.old) × (xs.new ≡ xs.old) × (ys.new ≡ ys.old)
         × (nodes.new ≡ nodes.old) × (frontier.new ≡ frontier.old) }
 {
-    let lattice = match draw_lattice(request, register, coordinates, xs, ys) {
-        Ok(lattice) => lattice,
-        Err(refusal) => return Outcome::Refused(refusal),
-    };
+    let lattice = draw_lattice(request, register, coordinates, xs, ys)?;
     let grid = Grid {
-        width: request.width,
-        height: request.height,
+        request: *request,
         lattice,
-        class: request.class,
-        net: request.net,
         kind,
-        xs: &xs[0..lattice.columns as usize],
-        ys: &ys[0..lattice.rows as usize],
+        xs: &xs[..lattice.columns as usize],
+        ys: &ys[..lattice.rows as usize],
         register,
     };
-    grid.find_path(request, nodes, frontier)
+    grid.find_path(nodes, frontier)
 }

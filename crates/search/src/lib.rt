@@ -10,13 +10,11 @@ mod lines;
 mod locate;
 mod moves;
 mod nodes;
-mod outcome;
 mod request;
 
 pub use grid::Grid;
 pub use lattice::Lattice;
 pub use least::least_cost;
-pub use lines::{Drawn, LINES, draw_lines};
+pub use lines::{LINES, Undrawn, draw_lines};
 pub use nodes::{Crossing, Way};
-pub use outcome::Outcome;
 pub use request::{Axis, Extent, Refusal, Request};

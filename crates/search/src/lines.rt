@@ -7,7 +7,7 @@ ghost use Rattle.search.specs.Drawing.{HasRoom, Puts, zone_borders, piece_border
 ghost use Rattle.search.specs.Drawing.{is_short, short_lists, ToldDrawn};
 
 use crate::request::{Axis, Extent};
-use geometry::{Class, Piece, Rect, Span, different_nets, zone_axis};
+use geometry::{Piece, Rect, Span, different_nets, zone_axis};
 use queue::{Queue, drain_distinct};
 use registers::Pieces;
 
@@ -25,11 +25,7 @@ fn along(axis: Axis, rect: &Rect) -> Span
 fn on_panel(border: i64, far: u32) -> Option<u32>
     ensures { option_to_list result ≡ on_panel far (border ∷ []) }
 {
-    if 0 <= border && border <= far as i64 {
-        Some(border as u32)
-    } else {
-        None
-    }
+    u32::try_from(border).ok().filter(|x| *x <= far)
 }
 
 /// Puts a border of a zone into the queue if it lies on the panel.
@@ -53,10 +49,11 @@ fn put_zone(queue: &mut Queue<'_, u32>, span: &Span, out: u32, far: u32)
 }
 
 /// Puts the borders of the wire zone and of the via zone of a piece into the queue, as far as they lie on the panel.
-fn put_piece(queue: &mut Queue<'_, u32>, extent: &Extent, class: &Class, piece: &Piece)
+fn put_piece(queue: &mut Queue<'_, u32>, extent: &Extent, piece: &Piece)
     requires { HasRoom 4 queue.old }
-    ensures { Puts (piece_borders extent.now class.now piece.now) queue.old queue.new }
+    ensures { Puts (piece_borders extent.now piece.now) queue.old queue.new }
 {
+    let class = extent.class;
     let span = along(extent.axis, &piece.rect);
     let space = class.space.max(piece.space) as u32;
     put_zone(queue, &span, class.half as u32 + space, extent.size);
@@ -64,72 +61,54 @@ fn put_piece(queue: &mut Queue<'_, u32>, extent: &Extent, class: &Class, piece: 
 }
 
 /// Puts the borders of the zones of all pieces of a different net into the queue, as far as they lie on the panel.
-fn put_pieces<P: Pieces>(
-    queue: &mut Queue<'_, u32>,
-    extent: &Extent,
-    class: &Class,
-    net: u8,
-    register: &P,
-)
+fn put_pieces<P: Pieces>(queue: &mut Queue<'_, u32>, extent: &Extent, register: &P)
     requires { HasRoom (4 * length (P.pieces register.now)) queue.old }
-    ensures { Puts (all_borders extent.now class.now net (P.pieces register.now)) queue.old queue.new }
+    ensures { Puts (all_borders extent.now (P.pieces register.now)) queue.old queue.new }
 {
-    let mut k = 0;
-    while let Some(piece) = register.piece(k) {
-        if different_nets(piece.net, net) {
-            put_piece(queue, extent, class, &piece);
+    for k in 0..register.count() {
+        let piece = register.piece(k).unwrap();
+        if different_nets(piece.net, extent.net) {
+            put_piece(queue, extent, &piece);
         }
-        k += 1;
     }
 }
 
 /// Puts the coordinates of the lines of a request along one axis into the queue.
-fn put_coordinates<P: Pieces>(
-    queue: &mut Queue<'_, u32>,
-    extent: &Extent,
-    class: &Class,
-    net: u8,
-    register: &P,
-)
+fn put_coordinates<P: Pieces>(queue: &mut Queue<'_, u32>, extent: &Extent, register: &P)
     requires { HasRoom (4 * length (P.pieces register.now) + 2) queue.old }
-    ensures { Puts (extent_coordinates extent.now class.now net (P.pieces register.now)) queue.old queue.new }
+    ensures { Puts (extent_coordinates extent.now (P.pieces register.now)) queue.old queue.new }
 {
     queue.put(extent.first);
     queue.put(extent.second);
-    put_pieces(queue, extent, class, net, register);
+    put_pieces(queue, extent, register);
 }
 
 /// The most lines along an axis.
 pub const LINES: usize = 1024;
 
-/// What drawing lines comes to: how many there are, or lists that are too short, or too many lines.
-#[derive(Clone, Copy)]
-pub enum Drawn {
-    Lines(usize),
-    Short,
-    TooMany,
+/// Why no lines are drawn: a list is too short, or there are too many lines.
+#[derive(Clone, Copy, Debug, PartialEq, Eq)]
+pub enum Undrawn {
+    ShortLists,
+    TooManyLines,
 }
 
-/// Writes the lines of a request along one axis to the front of `lines`, ascending and each once, by way of `coordinates`.
+/// Writes the lines of a request along one axis to the front of `lines`, ascending and each once, by way of `coordinates`,
+/// and answers how many they are.
 pub fn draw_lines<P: Pieces>(
     extent: &Extent,
-    class: &Class,
-    net: u8,
     register: &P,
     coordinates: &mut [u32],
     lines: &mut [u32],
-) -> Drawn
+) -> Result<usize, Undrawn>
     ensures short { is_short result ≡ short_lists (length (P.pieces register.now)) (length coordinates.old) (length lines.old) }
-    ensures lines { ToldDrawn (extent_lines extent.now class.now net (P.pieces register.now)) lines.new result }
+    ensures lines { ToldDrawn (extent_lines extent.now (P.pieces register.now)) lines.new result }
     ensures unchanged { T (is_short result) → (coordinates.new ≡ coordinates.old) × (lines.new ≡ lines.old) }
 {
     if coordinates.len() < 4 * register.count() + 2 || lines.len() < LINES {
-        return Drawn::Short;
+        return Err(Undrawn::ShortLists);
     }
     let mut queue = Queue::new(coordinates);
-    put_coordinates(&mut queue, extent, class, net, register);
-    match drain_distinct(&mut queue, LINES, lines) {
-        Some(count) => Drawn::Lines(count),
-        None => Drawn::TooMany,
-    }
+    put_coordinates(&mut queue, extent, register);
+    drain_distinct(&mut queue, LINES, lines).ok_or(Undrawn::TooManyLines)
 }

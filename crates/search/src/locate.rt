@@ -1,7 +1,6 @@
 // The nodes of the terminals.
-ghost use Rattle.std.specs.Prelude.{T, MatchOption};
-ghost use Rattle.geometry.specs.Lists.{mem};
-ghost use Rattle.search.specs.Located.{AtPlace, NodeOf, NoNode};
+ghost use Rattle.std.specs.Prelude.{◌≡◌, ◌==◌, MatchOption, position};
+ghost use Rattle.search.specs.Located.{NodeOf, NoNode};
 
 use crate::grid::Grid;
 use crate::nodes::Crossing;
@@ -9,14 +8,9 @@ use geometry::Point;
 
 /// The place of a line among the lines, if it is one.
 fn position(lines: &[u32], line: u32) -> Option<usize>
-    ensures { MatchOption result (T (mem line lines.now) → ⊥) (AtPlace lines.now line) }
+    ensures { result ≡ position (λ x. x == line) lines.now }
 {
-    for (i, x) in lines.iter().enumerate() {
-        if *x == line {
-            return Some(i);
-        }
-    }
-    None
+    lines.iter().position(|x| *x == line)
 }
 
 impl<'a, K, P> Grid<'a, K, P> {

@@ -57,13 +57,13 @@ impl<'a, K, P> Grid<'a, K, P> {
 impl<'a, K, P: Pieces> Grid<'a, K, P> {
     /// Whether nothing is in the way of a closed box on a layer, at a reach.
     fn is_clear(&self, layer: u8, reach: u16, area: &Rect) -> bool
-        ensures { result ≡ is_free self.now.net reach self.now.class.space (P.Pieces.pieces self.now.register.now) layer area.now }
+        ensures { result ≡ is_free self.now.request.net reach self.now.request.class.space (P.Pieces.pieces self.now.register.now) layer area.now }
     {
         let question = Question {
             layer,
-            net: self.net,
+            net: self.request.net,
             reach,
-            space: self.class.space,
+            space: self.request.class.space,
             area: *area,
             laid: false,
         };
@@ -76,11 +76,11 @@ impl<'a, K, P: Pieces> Grid<'a, K, P> {
         ensures { Adjoin p.now q.now → result ≡ on_free_ground (grid_rules (P.Pieces.pieces self.now.register.now) self.now) p.now (join p.now q.now) }
     {
         if p.layer == q.layer {
-            return self.is_clear(p.layer as u8, self.class.half, &box_of(p, q));
+            return self.is_clear(p.layer as u8, self.request.class.half, &box_of(p, q));
         }
         let area = box_of(p, p);
-        self.is_clear(p.layer as u8, self.class.pad, &area)
-            && self.is_clear(q.layer as u8, self.class.pad, &area)
+        self.is_clear(p.layer as u8, self.request.class.pad, &area)
+            && self.is_clear(q.layer as u8, self.request.class.pad, &area)
     }
 }
 

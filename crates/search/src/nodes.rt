@@ -1,11 +1,12 @@
 // The nodes of a request as numbers: crossings of lines, on each layer.
 ghost use Rattle.std.specs.Prelude.{◌≡◌, ◌<◌, IfSome, Some};
+ghost use Rattle.std.specs.Result.{result_ok};
 ghost use Rattle.search.specs.Nodes.{way_of, node_total, node_known, crossing_known, next_of, beside as neighbour};
 
 use crate::lattice::Lattice;
 
 /// A crossing of lines on a layer, each counted from 0.
-#[derive(Clone, Copy)]
+#[derive(Clone, Copy, Debug, PartialEq, Eq)]
 pub struct Crossing {
     pub column: u32,
     pub row: u32,
@@ -13,7 +14,7 @@ pub struct Crossing {
 }
 
 /// The directions to the six neighbours of a crossing.
-#[derive(Clone, Copy)]
+#[derive(Clone, Copy, Debug, PartialEq, Eq)]
 pub enum Way {
     Left,
     Right,
@@ -23,19 +24,25 @@ pub enum Way {
     Above,
 }
 
-impl Way {
+/// No direction: there are six.
+#[derive(Clone, Copy, Debug, PartialEq, Eq)]
+pub struct NoWay;
+
+impl TryFrom<u32> for Way {
+    type Error = NoWay;
+
+    ghost try_from_gives = { λ k r. result_ok r ≡ way_of k };
+
     /// The directions, counted from 0.
-    pub fn of(k: u32) -> Option<Way>
-        ensures { result ≡ way_of k }
-    {
+    fn try_from(k: u32) -> Result<Way, NoWay> {
         match k {
-            0 => Some(Way::Left),
-            1 => Some(Way::Right),
-            2 => Some(Way::Down),
-            3 => Some(Way::Up),
-            4 => Some(Way::Below),
-            5 => Some(Way::Above),
-            _ => None,
+            0 => Ok(Way::Left),
+            1 => Ok(Way::Right),
+            2 => Ok(Way::Down),
+            3 => Ok(Way::Up),
+            4 => Ok(Way::Below),
+            5 => Ok(Way::Above),
+            _ => Err(NoWay),
         }
     }
 }
@@ -81,7 +88,7 @@ impl Lattice {
     pub fn next(&self, node: u32, k: u32) -> Option<u32>
         ensures { node < node_total self.now → result ≡ next_of self.now node k }
     {
-        let way = Way::of(k)?;
+        let way = Way::try_from(k).ok()?;
         let c = self.crossing(node)?;
         let d = self.beside(way, &c)?;
         self.node(&d)

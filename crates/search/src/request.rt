@@ -2,17 +2,19 @@
 use geometry::{Class, Point};
 
 /// An axis of the panel.
-#[derive(Clone, Copy)]
+#[derive(Clone, Copy, Debug, PartialEq, Eq)]
 pub enum Axis {
     X,
     Y,
 }
 
-/// What a request is along one axis: the panel's size and the coordinates of both terminals.
+/// What a request asks along one axis: the panel's size, the class and the net, and the coordinates of both terminals.
 #[derive(Clone, Copy)]
 pub struct Extent {
     pub axis: Axis,
     pub size: u32,
+    pub class: Class,
+    pub net: u8,
     pub first: u32,
     pub second: u32,
 }
@@ -32,7 +34,7 @@ pub struct Request {
 /// Why no path was looked for: sizes or terminals out of range; fewer coordinates than four for each piece and two, which
 /// it names, or a list of lines below 1,024; more than 1,024 lines on an axis; fewer notes than nodes, which it names, or
 /// fewer places in the frontier than six for each node and one.
-#[derive(Clone, Copy)]
+#[derive(Clone, Copy, Debug, PartialEq, Eq)]
 pub enum Refusal {
     Improper,
     ShortLists(usize),

@@ -1,38 +1,35 @@
 use Rattle.std.proofs.Common.{length, refl}
 use Rattle.costs.specs.Amounts.{tariff}
+use Rattle.search.specs.declared.request.Axis.TheVariants.{X, Y}
 use Rattle.search.proofs.Costs.{part_long, part_lines, part_near, narrow, low, told_cost, not_early}
-use Rattle.search.proofs.Leasts.{is_so, XOn, YOn}
+use Rattle.search.proofs.Leasts.{is_so, lines_on}
 use Rattle.search.proofs.least.least_cost.Goals as goal
 
 pub invariant_of-grid : goal.invariant_of-grid
 invariant_of-grid g c =
     let q = c.args.request.now in
     let ps = g.P.Pieces.pieces c.args.register.now in
-    let a = c.in-Ok.ensures.answer in
+    let a = c.in_ok-lattice.ensures.answer in
     let h = is_so _ a.0.is_proper in
-    let l = c.in-Ok.lattice in
+    let l = c.in_ok-lattice.lattice in
     let across = a.1.across in
     let upright = a.1.upright in record {
       columns = part_long _ c.draw_lattice.new.xs l.columns across;
       rows = part_long _ c.draw_lattice.new.ys l.rows upright;
-      near = part_near _ c.draw_lattice.new.xs l.columns across q.width (XOn q h ps) (narrow q h);
-      close = part_near _ c.draw_lattice.new.ys l.rows upright q.height (YOn q h ps) (low q h);
+      near = part_near _ c.draw_lattice.new.xs l.columns across q.width (lines_on q h X ps) (narrow q h);
+      close = part_near _ c.draw_lattice.new.ys l.rows upright q.height (lines_on q h Y ps) (low q h);
     }
 
 pub returns : goal.returns
 returns g c =
     let q = c.args.request.now in
     let ps = g.P.Pieces.pieces c.args.register.now in
-    let a = c.in-Ok.ensures.answer in
+    let a = c.in_ok-lattice.ensures.answer in
     let amount = g.K.Amount.Amount in
     let tf = tariff amount.sums amount.means (g.K.CostKind.prices c.args.kind) in
-    let l = c.in-Ok.lattice in
+    let l = c.in_ok-lattice.lattice in
     let path = c.find_path.ensures.answer a.0.is_proper (record {
-      width_is = refl;
-      height_is = refl;
       layers_is = a.1.layers_is;
-      class_is = refl;
-      net_is = refl;
       across = part_lines _ c.draw_lattice.new.xs l.columns a.1.across;
       upright = part_lines _ c.draw_lattice.new.ys l.rows a.1.upright;
     }) in

@@ -16,5 +16,5 @@ returns g c =
     let room₁ : HasRoom 1 q₁ = room_left q q₁ (e.first ∷ []) 2 1 one (omega (arith, c.requires)) (omega arith) in
     let two = puts_one q₁ q₂ e.second c.put-2.result room₁ p₂.test p₂.waits p₂.order p₂.room in
     puts_more q q₂ c.put_pieces.new.queue (e.first ∷ e.second ∷ [])
-    (all_borders e c.args.class.now c.args.net (g.P.Pieces.pieces c.args.register.now))
+    (all_borders e (g.P.Pieces.pieces c.args.register.now))
     (puts_more q q₁ q₂ (e.first ∷ []) (e.second ∷ []) one two) c.put_pieces.ensures

@@ -4,20 +4,17 @@ use Rattle.search.specs.Lattices.{next_inside}
 use Rattle.search.proofs.Points.{known_point, present_point, point_in_reach}
 use Rattle.search.proofs.graph.GridGraphAmount.toward.Goals as goal
 
-pub returns-in_default : goal.returns-in_default
-returns-in_default g c h six = absurd (present_point c.args.self.now c.args.node c.in_default.ensures h)
-
-pub returns-in_default-point : goal.returns-in_default-point
-returns-in_default-point g c h six =
+pub returns-in_err-q : goal.returns-in_err-q
+returns-in_err-q g c h six =
     let grid = c.args.self.now in
     let inside = next_inside grid.lattice c.args.node c.args.way c.in_ok-next.next h (sym (c.in_ok-next.ensures h)) in
-    absurd (present_point grid c.in_ok-next.next c.in_default-point.ensures inside)
+    absurd (present_point grid c.in_ok-next.next c.in_err-q.ensures inside)
 
 pub price-requires : goal.price-requires
 price-requires g c =
     let grid = c.args.self.now in
-    let p = known_point grid c.args.node c.in-Some.p c.in-Some.ensures in
-    let q = known_point grid c.in_ok-next.next c.in-Some-point.q c.in-Some-point.ensures in (
+    let p = known_point grid c.args.node c.in_ok-p.p c.in_ok-p.ensures in
+    let q = known_point grid c.in_ok-next.next c.in_ok-q.q c.in_ok-q.ensures in (
       subst InReach (sym p.1) (point_in_reach grid c.args.node p.0),
       subst InReach (sym q.1) (point_in_reach grid c.in_ok-next.next q.0),
     )
