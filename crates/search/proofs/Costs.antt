@@ -3,12 +3,13 @@ use Rattle.std.proofs.Common.{◌≡◌, ℕ, ◌-◌, ◌≤◌, ◌&&◌, T, l
 use Rattle.costs.specs.Amounts.{Tariff}
 use Rattle.geometry.specs.declared.piece.Piece.{Piece}
 use Rattle.geometry.specs.Lists.{all_of}
+use Rattle.geometry.specs.Sizes.{has}
 use Rattle.routes.proofs.Bools.{left, right}
 use Rattle.search.specs.declared.request.Refusal.{Refusal}
 use Rattle.search.specs.declared.request.Refusal.TheVariants.{Improper, ShortLists, TooManyLines, ShortNodes}
 use Rattle.search.specs.declared.request.Request.{Request}
 use Rattle.search.specs.Drawing.{ToldLines}
-use Rattle.search.specs.Requests.{proper, sized, on_the_panel}
+use Rattle.search.specs.Requests.{proper, sized}
 use Rattle.search.specs.Told.{LinesOf, Passed, ToldPath, ToldCost, is_early}
 use Rattle.search.proofs.Leasts.{lines_below}
 
@@ -29,14 +30,14 @@ module _ (ls out : List ℕ) (n : ℕ) (told : ToldLines ls out n) where
 
 module _ (q : Request) (is_proper : T (proper q)) where
   sizes : T (sized q)
-  sizes = left (sized q) (on_the_panel q q.first && on_the_panel q q.second) is_proper
+  sizes = left (sized q) (has q.size q.first && has q.size q.second) is_proper
 
-  pub narrow : q.width ≤ 60000
-  narrow = leb→le q.width 60000 (left (leb q.width 60000) (leb q.height 60000 && leb q.layers 8) sizes)
+  pub narrow : q.size.width ≤ 60000
+  narrow = leb→le q.size.width 60000 (left (leb q.size.width 60000) (leb q.size.height 60000 && leb q.size.layers 8) sizes)
 
-  pub low : q.height ≤ 60000
-  low = leb→le q.height 60000 (left (leb q.height 60000) (leb q.layers 8)
-      (right (leb q.width 60000) (leb q.height 60000 && leb q.layers 8) sizes))
+  pub low : q.size.height ≤ 60000
+  low = leb→le q.size.height 60000 (left (leb q.size.height 60000) (leb q.size.layers 8)
+      (right (leb q.size.width 60000) (leb q.size.height 60000 && leb q.size.layers 8) sizes))
 
 module _ {C M : Type 0} (tf : Tariff M) (means : C → M) (q : Request) (ps : List Piece) (j k k' notes entries : ℕ) where
   pub told_cost : (r : Result (Option C) Refusal) → Passed q ps j k k' → ToldPath tf means q ps notes entries r

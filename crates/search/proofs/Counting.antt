@@ -9,7 +9,7 @@ use Rattle.std.proofs.lemmas.List.Quantifiers.{position-Some}
 use Rattle.std.proofs.lemmas.Bool.{cases_lt}
 use Rattle.geometry.specs.Lists.{mem, distinct}
 use Rattle.queue.specs.Distinct.{Climbs, MoreThan, Collected, Drained, allowed}
-use Rattle.queue.proofs.Uses.{collected_shuffled, more_than_shuffled}
+use Rattle.queue.proofs.Uses.{drained_shuffled}
 use Rattle.routes.proofs.Bools.{either, first, second}
 use Rattle.routes.proofs.Listed.{mem_distinct}
 use Rattle.search.specs.declared.lines.Undrawn.TheVariants.{TooManyLines}
@@ -177,8 +177,8 @@ module _ (xs ws old out : List ℕ) (put : IsPermutation xs ws) (long : 1024 ≤
 
   pub told_drawn : (r : Option ℕ) → IfSome r (λ n. n ≤ allowed 1024 old) → Drained (allowed 1024 old) ws out r
       → ToldDrawn (distinct xs) out (ok_or r TooManyLines)
-  told_drawn (Some n) few c =
-      let at_most : n ≤ 1024 = omega (arith, most) in
-      told_lines xs out n (collected_shuffled 1024 xs ws (take n out) put (subst (λ v. Collected v ws (take n out)) most c))
-      at_most (omega arith)
-  told_drawn None few m = too_many xs (more_than_shuffled 1024 xs ws put (subst (λ v. MoreThan v ws) most m))
+  told_drawn r few d = pick r few (drained_shuffled 1024 xs ws out r put (subst (λ v. Drained v ws out r) most d))
+    where
+      pick : (r : Option ℕ) → IfSome r (λ n. n ≤ allowed 1024 old) → Drained 1024 xs out r → ToldDrawn (distinct xs) out (ok_or r TooManyLines)
+      pick (Some n) few c = told_lines xs out n c (omega (arith, most, few)) (omega (arith, most, few))
+      pick None few m = too_many xs m

@@ -1,7 +1,7 @@
 -- What the lines along both axes say of a request. Assumes nothing.
 use Rattle.std.proofs.Common.{◌≡◌, ℕ, ◌<◌, ◌≤◌, Bool, true, false, ◌||◌, ltb, List, length, Err, refl, ap, ◌∙◌, subst, le-ltb, lt-ltb, arith}
 use Rattle.geometry.specs.declared.piece.Piece.{Piece}
-use Rattle.search.specs.declared.request.Axis.TheVariants.{X, Y}
+use Rattle.geometry.specs.declared.axis.Axis.TheVariants.{X, Y}
 use Rattle.search.specs.declared.lines.Undrawn.{Undrawn}
 use Rattle.search.specs.declared.lines.Undrawn.TheVariants.{ShortLists, TooManyLines}
 use Rattle.search.specs.declared.request.Request.{Request}

@@ -59,8 +59,8 @@ is_true false h = absurd h
 pub record Ruled {K P : Type 0} (g : Grid K P) : Type 0 where
   pub Xs : Climbs g.xs.now
   pub Ys : Climbs g.ys.now
-  pub right : (i : ℕ) → get_or g.xs.now i 0 ≤ g.request.width
-  pub top : (i : ℕ) → get_or g.ys.now i 0 ≤ g.request.height
+  pub right : (i : ℕ) → get_or g.xs.now i 0 ≤ g.request.size.width
+  pub top : (i : ℕ) → get_or g.ys.now i 0 ≤ g.request.size.height
 
 -- one node lies at a point
 pub same_node : {K P : Type 0} (g : Grid K P) → Ruled g → (u w : ℕ) → u < node_total g.lattice → w < node_total g.lattice
@@ -106,7 +106,7 @@ module _ {K P C M : Type 0} (g : Grid K P) (ruled : Ruled g) (pieces : List Piec
       let o = crossing_on g.lattice u h in
       let c = crossing_at g.lattice u in
       both _ _ (both _ _ (le→leb 1 (c.level + 1) (omega arith)) (le→leb (c.level + 1) g.lattice.layers (omega (arith, o.level))))
-      (both _ _ (le→leb (pt u).x g.request.width (ruled.right c.column)) (le→leb (pt u).y g.request.height (ruled.top c.row)))
+      (both _ _ (le→leb (pt u).x g.request.size.width (ruled.right c.column)) (le→leb (pt u).y g.request.size.height (ruled.top c.row)))
 
   -- a hop from node to node is a lawful move along the lines
 

@@ -10,6 +10,8 @@ use Rattle.frontier.specs.Routes.{Search, Route, LeastCost, HasNoRoute}
 use Rattle.geometry.specs.declared.piece.Piece.{Piece}
 use Rattle.geometry.specs.declared.point.Point.{Point}
 use Rattle.geometry.specs.Lists.{all_of, mem}
+use Rattle.geometry.specs.Axes.{axis_of, coordinate_of}
+use Rattle.geometry.specs.Sizes.{has}
 use Rattle.geometry.specs.Ranges.{ranges}
 use Rattle.routes.specs.Lines.{enough_lines, among, LineRoute, LinePath}
 use Rattle.routes.specs.Turns.{none_twice}
@@ -21,15 +23,15 @@ use Rattle.routes.proofs.Listed.{all_of_from, mem_in, mem_distinct}
 use Rattle.routes.proofs.Paths.{line_routes_are_unit_routes}
 use Rattle.routes.proofs.Suffice.{least_on_lines_is_least, no_line_route_no_path}
 use Rattle.search.specs.declared.grid.Grid.{Grid}
-use Rattle.search.specs.declared.request.Axis.{Axis}
-use Rattle.search.specs.declared.request.Axis.TheVariants.{X, Y}
+use Rattle.geometry.specs.declared.axis.Axis.{Axis}
+use Rattle.geometry.specs.declared.axis.Axis.TheVariants.{X, Y}
 use Rattle.search.specs.declared.request.Extent.{Extent}
 use Rattle.search.specs.declared.request.Request.{Request}
 use Rattle.search.specs.Axes.{extent_coordinates, extent_lines}
 use Rattle.search.specs.Located.{NodeOf, NoNode}
 use Rattle.search.specs.Grids.{grid_point, grid_rules, joins}
 use Rattle.search.specs.Nodes.{node_total}
-use Rattle.search.specs.Requests.{proper, sized, on_the_panel, extent, request_rules, request_lines, request_nodes}
+use Rattle.search.specs.Requests.{proper, sized, side, extent, request_rules, request_lines, request_nodes}
 use Rattle.search.specs.Told.{GridOf, LeastPath, Led}
 use Rattle.search.proofs.Counting.{place_mem, mem_place}
 use Rattle.search.proofs.Leading.{Apart, apart_turned, no_cross, trail_apart, trail_turned, points_apart}
@@ -67,31 +69,28 @@ all_among : (ls found : List ℕ) → ((v : ℕ) → mem v found ≡ mem v ls) �
 all_among ls found same = all_of_from (λ n. mem n found) ls (λ n i. subst T (sym (same n)) (mem_in n ls i))
 
 module _ (q : Request) (is_proper : T (proper q)) where
-  first_on : T (on_the_panel q q.first)
-  first_on = left (on_the_panel q q.first) (on_the_panel q q.second) (right (sized q) _ is_proper)
+  first_on : T (has q.size q.first)
+  first_on = left (has q.size q.first) (has q.size q.second) (right (sized q) _ is_proper)
 
-  second_on : T (on_the_panel q q.second)
-  second_on = right (on_the_panel q q.first) (on_the_panel q q.second) (right (sized q) _ is_proper)
+  second_on : T (has q.size q.second)
+  second_on = right (has q.size q.first) (has q.size q.second) (right (sized q) _ is_proper)
 
-  x_of : (p : Point) → T (on_the_panel q p) → p.x ≤ q.width
-  x_of p h = leb→le p.x q.width (left (leb p.x q.width) (leb p.y q.height) (right (ranges 1 q.layers p.layer) _ h))
+  -- a coordinate of a point of the panel
+  inside_of : (a : Axis) (p : Point) → T (has q.size p) → coordinate_of a p ≤ side a q.size
+  inside_of X p h = leb→le p.x q.size.width (left (leb p.x q.size.width) (leb p.y q.size.height) (right (ranges 1 q.size.layers p.layer) _ h))
+  inside_of Y p h = leb→le p.y q.size.height (right (leb p.x q.size.width) (leb p.y q.size.height) (right (ranges 1 q.size.layers p.layer) _ h))
 
-  y_of : (p : Point) → T (on_the_panel q p) → p.y ≤ q.height
-  y_of p h = leb→le p.y q.height (right (leb p.x q.width) (leb p.y q.height) (right (ranges 1 q.layers p.layer) _ h))
-
-  pub lines_on : (a : Axis) (ps : List Piece) → T (all_of (λ n. leb n (extent q a).size) (request_lines q a ps))
-  lines_on X ps = lines_lie_on_the_panel (λ r. r.x) q.width q.class q.net ps q.first.x q.second.x
-      (x_of q.first first_on) (x_of q.second second_on)
-  lines_on Y ps = lines_lie_on_the_panel (λ r. r.y) q.height q.class q.net ps q.first.y q.second.y
-      (y_of q.first first_on) (y_of q.second second_on)
+  pub lines_on : (a : Axis) (ps : List Piece) → T (all_of (λ n. leb n (side a q.size)) (request_lines q a ps))
+  lines_on a ps = lines_lie_on_the_panel (axis_of a) (side a q.size) q.class q.net ps (coordinate_of a q.first) (coordinate_of a q.second)
+      (inside_of a q.first first_on) (inside_of a q.second second_on)
 
 -- the lines of a request's grid ascend and lie on the panel
 pub ruled_grid : {K P : Type 0} (ps : List Piece) (g : Grid K P) → T (proper g.request) → GridOf ps g → Ruled g
 ruled_grid ps g is_proper of = record {
   Xs = of.across.climbs;
   Ys = of.upright.climbs;
-  right = lines_below (request_lines g.request X ps) g.xs.now g.request.width of.across.same (lines_on g.request is_proper X ps);
-  top = lines_below (request_lines g.request Y ps) g.ys.now g.request.height of.upright.same (lines_on g.request is_proper Y ps);
+  right = lines_below (request_lines g.request X ps) g.xs.now g.request.size.width of.across.same (lines_on g.request is_proper X ps);
+  top = lines_below (request_lines g.request Y ps) g.ys.now g.request.size.height of.upright.same (lines_on g.request is_proper Y ps);
 }
 
 module _ {K P C M : Type 0} (ps : List Piece) (g : Grid K P) (is_proper : T (proper g.request)) (of : GridOf ps g)
@@ -127,13 +126,13 @@ module _ {K P C M : Type 0} (ps : List Piece) (g : Grid K P) (is_proper : T (pro
 
   -- the rules of the grid are those of the request
   rules_same : R ≡ request_rules q ps
-  rules_same = λ i. rules_of q.width q.height (of.layers_is i) q.class q.net ps
+  rules_same = λ i. rules_of q.size.width q.size.height (of.layers_is i) q.class q.net ps
 
-  enough : T (enough_lines q.width q.height q.class q.net ps q.first q.second X' Y')
+  enough : T (enough_lines q.size.width q.size.height q.class q.net ps q.first q.second X' Y')
   enough = both _ _ (all_among (request_lines q X ps) X' of.across.same) (all_among (request_lines q Y ps) Y' of.upright.same)
 
-  enough_here : T (enough_lines q.width q.height q.class q.net ps s t X' Y')
-  enough_here = subst T (λ i. enough_lines q.width q.height q.class q.net ps (sym from_at.is i) (sym to_at.is i) X' Y') enough
+  enough_here : T (enough_lines q.size.width q.size.height q.class q.net ps s t X' Y')
+  enough_here = subst T (λ i. enough_lines q.size.width q.size.height q.class q.net ps (sym from_at.is i) (sym to_at.is i) X' Y') enough
 
   line_route : (nodes : List ℕ) (a : M) → (f : Followed g ruled ps prices sums means from from nodes to a)
       → LineRoute R X' Y' s t f.moves
@@ -154,13 +153,13 @@ module _ {K P C M : Type 0} (ps : List Piece) (g : Grid K P) (is_proper : T (pro
   least_here : (a : M) → LeastCost graph to a → LeastPath tf R s t a
   least_here a l =
       let f = follow g ruled ps prices sums means from from l.nodes to a from_at.inside l.route in
-      let u = line_routes_are_unit_routes sums laws tf.prices q.width q.height g.lattice.layers q.class q.net ps s t X' Y'
+      let u = line_routes_are_unit_routes sums laws tf.prices q.size.width q.size.height g.lattice.layers q.class q.net ps s t X' Y'
       f.moves (line_route l.nodes a f) in
       record {
         moves = u.0;
         path = u.1;
         costs = u.2 ∙ f.costs;
-        least = least_on_lines_is_least sums laws tf.prices q.width q.height g.lattice.layers q.class q.net ps s t X' Y'
+        least = least_on_lines_is_least sums laws tf.prices q.size.width q.size.height g.lattice.layers q.class q.net ps s t X' Y'
             enough_here a (λ r line. let n = as_route r line in l.lowest n.0 (cost tf s r) n.1);
       }
 
@@ -169,7 +168,7 @@ module _ {K P C M : Type 0} (ps : List Piece) (g : Grid K P) (is_proper : T (pro
 
   no_path_here : HasNoRoute graph to → HasNoPath R s t
   no_path_here none =
-      no_line_route_no_path q.width q.height g.lattice.layers q.class q.net ps s t X' Y' enough_here
+      no_line_route_no_path q.size.width q.size.height g.lattice.layers q.class q.net ps s t X' Y' enough_here
       (λ r line. let n = as_route r line in none n.0 (cost tf s r) n.1)
 
   pub no_path : HasNoRoute graph to → HasNoPath (request_rules q ps) q.first q.second
@@ -221,11 +220,11 @@ total_request ps g of =
 
 -- both terminals are nodes
 module _ {K P : Type 0} (ps : List Piece) (g : Grid K P) (is_proper : T (proper g.request)) (of : GridOf ps g) where
-  found_at : (p : Point) → T (on_the_panel g.request p) → T (mem p.x (request_lines g.request X ps))
+  found_at : (p : Point) → T (has g.request.size p) → T (mem p.x (request_lines g.request X ps))
       → T (mem p.y (request_lines g.request Y ps)) → NoNode g p → ⊥
   found_at p on x y none =
-      let deepest = g.request.layers in
-      let deep = left (ranges 1 deepest p.layer) (leb p.x g.request.width && leb p.y g.request.height) on in
+      let deepest = g.request.size.layers in
+      let deep = left (ranges 1 deepest p.layer) (leb p.x g.request.size.width && leb p.y g.request.size.height) on in
       none (subst T (sym (of.across.same p.x)) x) (subst T (sym (of.upright.same p.y)) y)
       (leb→le 1 p.layer (left (leb 1 p.layer) (leb p.layer deepest) deep))
       (subst (λ n. p.layer ≤ n) (sym of.layers_is) (leb→le p.layer deepest (right (leb 1 p.layer) (leb p.layer deepest) deep)))

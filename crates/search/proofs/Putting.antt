@@ -1,5 +1,5 @@
 -- Numbers that are put into a queue, one behind the other. Assumes nothing.
-use Rattle.std.proofs.Common.{◌≡◌, ℕ, ◌+◌, ◌-◌, ◌*◌, ◌<◌, ◌≤◌, max, Bool, true, false, cond, ltb, leb, List, [], ◌∷◌, ◌++◌, length, get_or, take, ℤ, pos, negsuc, sym, refl, ap, ◌∙◌, subst, append_assoc, append-nil, arith, length-append, lt-ltb}
+use Rattle.std.proofs.Common.{◌≡◌, ℕ, ◌+◌, ◌-◌, ◌*◌, ◌<◌, ◌≤◌, max, Bool, true, false, cond, leb, List, [], ◌∷◌, ◌++◌, length, get_or, take, ℤ, pos, negsuc, sym, refl, ap, ◌∙◌, subst, append_assoc, append-nil, Ok, Result, nat_lt, arith, length-append}
 use Rattle.std.specs.List.Sorted.{IsPermutation}
 use Rattle.std.proofs.lemmas.List.Sorted.{IsPermutation-trans, IsPermutation-cons, IsPermutation-to_front, IsPermutation-refl, length_permutation}
 use Rattle.std.proofs.lemmas.List.Elements.{filter_more}
@@ -9,14 +9,14 @@ use Rattle.geometry.specs.declared.rect.Span.{Span}
 use Rattle.geometry.specs.Lists.{flat}
 use Rattle.geometry.specs.Nets.{different_nets}
 use Rattle.geometry.specs.Zones.{widened}
+use Rattle.queue.specs.declared.heap.Full.{Full}
 use Rattle.queue.specs.declared.heap.Queue.{Queue}
-use Rattle.queue.specs.Waiting.{waiting, room, Keeps, PutIn}
-use Rattle.queue.proofs.Uses.{when_true}
+use Rattle.queue.specs.Waiting.{waiting, room, Keeps, PutIn, SameSlots}
 use Rattle.routes.specs.Lines.{on_panel, borders, others}
-use Rattle.search.specs.declared.request.Axis.{Axis}
-use Rattle.search.specs.declared.request.Axis.TheVariants.{X, Y}
+use Rattle.geometry.specs.declared.axis.Axis.{Axis}
+use Rattle.geometry.specs.declared.axis.Axis.TheVariants.{X, Y}
 use Rattle.search.specs.declared.request.Extent.{Extent}
-use Rattle.search.specs.Axes.{axis_of}
+use Rattle.geometry.specs.Axes.{axis_of}
 use Rattle.search.specs.Drawing.{HasRoom, Puts, zone_borders, piece_borders, all_borders}
 
 -- nothing is put
@@ -28,17 +28,16 @@ puts_none q = record {
 }
 
 -- one number is put where there is room
-pub puts_one : (q q' : Queue ℕ) (x : ℕ) (r : Bool) → HasRoom 1 q → r ≡ ltb (length (waiting q)) (room q)
-    → PutIn x q r q' → Keeps ltb q q' → room q' ≡ room q → Puts (x ∷ []) q q'
-puts_one q q' x r fits test put order same =
-    let done : IsPermutation (x ∷ waiting q) (waiting q') =
-    when_true _ _ r (test ∙ lt-ltb (length (waiting q)) (room q) (omega arith)) put in
+pub puts_one : (q q' : Queue ℕ) (x : ℕ) (r : Result Unit Full) → r ≡ Ok tt → PutIn x q r q' → Keeps nat_lt q q'
+    → SameSlots q q' → Puts (x ∷ []) q q'
+puts_one q q' x r ok put order same =
+    let done : IsPermutation (x ∷ waiting q) (waiting q') = rw ok at put in
     record {
       waits = λ xs s.
           IsPermutation-trans (xs ++ x ∷ []) (x ∷ waiting q) (waiting q')
           (IsPermutation-trans (xs ++ x ∷ []) (x ∷ xs) (x ∷ waiting q) (IsPermutation-to_front xs x) (IsPermutation-cons x xs (waiting q) s)) done;
       order = order;
-      room_stays = same;
+      room_stays = same.room_stays;
     }
 
 -- some numbers, and then others

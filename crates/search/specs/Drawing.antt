@@ -11,6 +11,7 @@ use Rattle.std.specs.Prelude.{◌≡◌, ℕ, ◌+◌, ◌*◌, ◌<◌, ◌≤�
 use Rattle.std.specs.List.Sorted.{IsPermutation}
 use Rattle.geometry.specs.declared.piece.Piece.{Piece}
 use Rattle.geometry.specs.declared.rect.Span.{Span}
+use Rattle.geometry.specs.Axes.{axis_of}
 use Rattle.geometry.specs.Lists.{flat, mem}
 use Rattle.geometry.specs.Zones.{widened}
 use Rattle.queue.specs.declared.heap.Queue.{Queue}
@@ -20,7 +21,6 @@ use Rattle.routes.specs.Lines.{on_panel, borders, others}
 use Rattle.search.specs.declared.lines.Undrawn.{Undrawn}
 use Rattle.search.specs.declared.lines.Undrawn.TheVariants.{ShortLists, TooManyLines}
 use Rattle.search.specs.declared.request.Extent.{Extent}
-use Rattle.search.specs.Axes.{axis_of}
 
 abbrev pub HasRoom : ℕ → Queue ℕ → Type 0
 HasRoom k q = length (waiting q) + k ≤ room q

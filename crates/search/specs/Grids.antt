@@ -50,7 +50,7 @@ module _ {K P : Type 0} where
   grid_point g = point_of g.lattice g.xs.now g.ys.now
 
   abbrev pub grid_rules : List Piece → Grid K P → Rules
-  grid_rules pieces g = rules_of g.request.width g.request.height g.lattice.layers g.request.class g.request.net pieces
+  grid_rules pieces g = rules_of g.request.size.width g.request.size.height g.lattice.layers g.request.class g.request.net pieces
 
   -- no move is dearer than one over 60,000 units at 65,535
   abbrev pub grid_shape : List Piece → Grid K P → Shape

@@ -8,33 +8,42 @@
 --     request_nodes q ps        how many nodes there are
 --     nodes_short n j k         the list of notes or the frontier's is too short for n nodes
 use Rattle.std.specs.Prelude.{ℕ, ◌+◌, ◌*◌, Bool, ◌&&◌, ◌||◌, List, length, nat_le, nat_lt}
+use Rattle.geometry.specs.declared.axis.Axis.{Axis}
+use Rattle.geometry.specs.declared.axis.Axis.TheVariants.{X, Y}
 use Rattle.geometry.specs.declared.piece.Piece.{Piece}
-use Rattle.geometry.specs.declared.point.Point.{Point}
-use Rattle.geometry.specs.Ranges.{ranges}
+use Rattle.geometry.specs.declared.size.Size.{Size}
+use Rattle.geometry.specs.Axes.{coordinate_of}
+use Rattle.geometry.specs.Sizes.{has}
 use Rattle.routes.specs.Lines.{node_count}
 use Rattle.routes.specs.Routes.{Rules}
 use Rattle.routes.specs.Rules.{rules_of}
-use Rattle.search.specs.declared.request.Axis.{Axis}
-use Rattle.search.specs.declared.request.Axis.TheVariants.{X, Y}
 use Rattle.search.specs.declared.request.Extent.{Extent}
 use Rattle.search.specs.declared.request.Request.{Request}
 use Rattle.search.specs.Axes.{extent_lines}
 
-abbrev pub on_the_panel : Request → Point → Bool
-on_the_panel q p = ranges 1 q.layers p.layer && (nat_le p.x q.width && nat_le p.y q.height)
-
 abbrev pub sized : Request → Bool
-sized q = nat_le q.width 60000 && (nat_le q.height 60000 && nat_le q.layers 8)
+sized q = nat_le q.size.width 60000 && (nat_le q.size.height 60000 && nat_le q.size.layers 8)
 
 abbrev pub proper : Request → Bool
-proper q = sized q && (on_the_panel q q.first && on_the_panel q q.second)
+proper q = sized q && (has q.size q.first && has q.size q.second)
+
+-- the size of a panel along an axis
+abbrev pub side : Axis → Size → ℕ
+side X s = s.width
+side Y s = s.height
 
 abbrev pub extent : Request → Axis → Extent
-extent q X = record { axis = X; size = q.width; class = q.class; net = q.net; first = q.first.x; second = q.second.x }
-extent q Y = record { axis = Y; size = q.height; class = q.class; net = q.net; first = q.first.y; second = q.second.y }
+extent q a = record {
+  axis = a;
+  size = side a q.size;
+  class = q.class;
+  net = q.net;
+  first = coordinate_of a q.first;
+  second = coordinate_of a q.second;
+}
 
 abbrev pub request_rules : Request → List Piece → Rules
-request_rules q pieces = rules_of q.width q.height q.layers q.class q.net pieces
+request_rules q pieces = rules_of q.size.width q.size.height q.size.layers q.class q.net pieces
 
 abbrev pub request_lines : Request → Axis → List Piece → List ℕ
 request_lines q a pieces = extent_lines (extent q a) pieces
@@ -46,7 +55,7 @@ abbrev pub many_lines : Request → List Piece → Bool
 many_lines q pieces = nat_lt 1024 (length (request_lines q X pieces)) || nat_lt 1024 (length (request_lines q Y pieces))
 
 abbrev pub request_nodes : Request → List Piece → ℕ
-request_nodes q pieces = node_count (request_lines q X pieces) (request_lines q Y pieces) q.layers
+request_nodes q pieces = node_count (request_lines q X pieces) (request_lines q Y pieces) q.size.layers
 
 abbrev pub nodes_short : ℕ → ℕ → ℕ → Bool
 nodes_short n notes entries = nat_lt notes n || nat_lt entries (6 * n + 1)

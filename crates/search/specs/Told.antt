@@ -11,6 +11,7 @@ use Rattle.std.specs.Prelude.{◌≡◌, ℕ, ◌+◌, ◌*◌, ◌<◌, Bool, t
 use Rattle.costs.specs.Amounts.{Tariff}
 use Rattle.frontier.specs.declared.note.Note.{Note}
 use Rattle.frontier.specs.Ways.{Leads}
+use Rattle.geometry.specs.declared.axis.Axis.TheVariants.{X, Y}
 use Rattle.geometry.specs.declared.piece.Piece.{Piece}
 use Rattle.geometry.specs.declared.point.Point.{Point}
 use Rattle.geometry.specs.Lists.{mem}
@@ -19,7 +20,6 @@ use Rattle.routes.specs.Lines.{LinePath}
 use Rattle.routes.specs.Routes.{Move, Rules, Path, cost, NoneCheaper, HasNoPath}
 use Rattle.search.specs.declared.grid.Grid.{Grid}
 use Rattle.search.specs.declared.lattice.Lattice.{Lattice}
-use Rattle.search.specs.declared.request.Axis.TheVariants.{X, Y}
 use Rattle.search.specs.declared.request.Refusal.{Refusal}
 use Rattle.search.specs.declared.request.Refusal.TheVariants.{Improper, ShortLists, TooManyLines, ShortNodes}
 use Rattle.search.specs.declared.request.Request.{Request}
@@ -36,7 +36,7 @@ pub record LinesOf (ls found : List ℕ) : Type 0 where
   pub same : (v : ℕ) → mem v found ≡ mem v ls
 
 pub record GridOf {K P : Type 0} (ps : List Piece) (g : Grid K P) : Type 0 where
-  pub layers_is : g.lattice.layers ≡ g.request.layers
+  pub layers_is : g.lattice.layers ≡ g.request.size.layers
   pub across : LinesOf (request_lines g.request X ps) g.xs.now
   pub upright : LinesOf (request_lines g.request Y ps) g.ys.now
 
@@ -61,7 +61,7 @@ ToldAxis ls out (Err (ShortNodes n)) = ⊥
 
 -- the lists hold xs and ys then
 pub record LatticeOf (q : Request) (ps : List Piece) (xs ys : List ℕ) (l : Lattice) : Type 0 where
-  pub layers_is : l.layers ≡ q.layers
+  pub layers_is : l.layers ≡ q.size.layers
   pub across : ToldLines (request_lines q X ps) xs l.columns
   pub upright : ToldLines (request_lines q Y ps) ys l.rows
 

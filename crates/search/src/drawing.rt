@@ -2,51 +2,44 @@
 ghost use Rattle.std.specs.Prelude.{◌≡◌, ◌≤◌, T, false, length};
 ghost use Rattle.search.specs.Drawing.{short_lists};
 ghost use Rattle.search.specs.Told.{ToldLattice, ToldAxis, is_early};
-ghost use Rattle.search.specs.Requests.{proper, sized, on_the_panel, lists_short, extent, request_lines};
+ghost use Rattle.search.specs.Requests.{proper, sized, lists_short, extent, request_lines};
 
 use crate::lattice::Lattice;
 use crate::lines::{LINES, draw_lines};
-use crate::request::{Axis, Extent, Refusal, Request};
-use geometry::Point;
+use crate::request::{Extent, LAYERS, Refusal, Request, SIDE};
+use geometry::Axis;
 use registers::Pieces;
 
 impl Request {
-    /// Whether a point is on the panel.
-    fn has(&self, p: &Point) -> bool
-        ensures { result ≡ on_the_panel self.now p.now }
-    {
-        1 <= p.layer && p.layer <= self.layers && p.x <= self.width && p.y <= self.height
-    }
-
     /// Whether the sizes of the panel are in range.
     fn is_sized(&self) -> bool
         ensures { result ≡ sized self.now }
     {
-        self.width <= 60_000 && self.height <= 60_000 && self.layers <= 8
+        self.size.width <= SIDE && self.size.height <= SIDE && self.size.layers <= LAYERS
     }
 
     /// Whether the sizes are in range and the terminals on the panel.
     pub fn is_proper(&self) -> bool
         ensures { result ≡ proper self.now }
     {
-        self.is_sized() && self.has(&self.first) && self.has(&self.second)
+        self.is_sized() && self.size.has(&self.first) && self.size.has(&self.second)
     }
 
     /// What the request asks along an axis.
     fn extent(&self, axis: Axis) -> Extent
         ensures { result ≡ extent self.now axis }
     {
-        let (size, first, second) = match axis {
-            Axis::X => (self.width, self.first.x, self.second.x),
-            Axis::Y => (self.height, self.first.y, self.second.y),
+        let size = match axis {
+            Axis::X => self.size.width,
+            Axis::Y => self.size.height,
         };
         Extent {
             axis,
             size,
             class: self.class,
             net: self.net,
-            first,
-            second,
+            first: self.first.along(axis),
+            second: self.second.along(axis),
         }
     }
 }
@@ -99,6 +92,6 @@ pub(crate) fn draw_lattice<P: Pieces>(
     Ok(Lattice {
         columns,
         rows,
-        layers: request.layers,
+        layers: request.size.layers,
     })
 }

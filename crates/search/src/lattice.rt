@@ -2,7 +2,7 @@
 ghost use Rattle.std.specs.Prelude.{◌≤◌};
 
 /// The crossings of up to 1,024 columns and 1,024 rows on up to 8 layers.
-#[derive(Clone, Copy)]
+#[derive(Clone, Copy, Debug, PartialEq, Eq)]
 pub struct Lattice {
     pub columns: u32,
     pub rows: u32,

@@ -17,4 +17,4 @@ pub use lattice::Lattice;
 pub use least::least_cost;
 pub use lines::{LINES, Undrawn, draw_lines};
 pub use nodes::{Crossing, Way};
-pub use request::{Axis, Extent, Refusal, Request};
+pub use request::{Extent, LAYERS, Refusal, Request, SIDE};

@@ -2,24 +2,14 @@
 ghost use Rattle.std.specs.Prelude.{◌≡◌, ◌+◌, ◌*◌, T, [], ◌∷◌, length};
 ghost use Rattle.std.specs.Option.{option_to_list};
 ghost use Rattle.routes.specs.Lines.{on_panel};
-ghost use Rattle.search.specs.Axes.{axis_of, extent_coordinates, extent_lines};
+ghost use Rattle.search.specs.Axes.{extent_coordinates, extent_lines};
 ghost use Rattle.search.specs.Drawing.{HasRoom, Puts, zone_borders, piece_borders, all_borders};
 ghost use Rattle.search.specs.Drawing.{is_short, short_lists, ToldDrawn};
 
-use crate::request::{Axis, Extent};
-use geometry::{Piece, Rect, Span, different_nets, zone_axis};
+use crate::request::Extent;
+use geometry::{Piece, Span, different_nets, zone_axis};
 use queue::{Queue, drain_distinct};
 use registers::Pieces;
-
-/// The borders of a rectangle along an axis.
-fn along(axis: Axis, rect: &Rect) -> Span
-    ensures { result ≡ axis_of axis rect.now }
-{
-    match axis {
-        Axis::X => rect.x,
-        Axis::Y => rect.y,
-    }
-}
 
 /// A border of a zone, if it lies on the panel.
 fn on_panel(border: i64, far: u32) -> Option<u32>
@@ -34,7 +24,7 @@ fn put_border(queue: &mut Queue<'_, u32>, border: i64, far: u32)
     ensures { Puts (on_panel far (border ∷ [])) queue.old queue.new }
 {
     if let Some(x) = on_panel(border, far) {
-        queue.put(x);
+        queue.put(x).unwrap();
     }
 }
 
@@ -54,7 +44,7 @@ fn put_piece(queue: &mut Queue<'_, u32>, extent: &Extent, piece: &Piece)
     ensures { Puts (piece_borders extent.now piece.now) queue.old queue.new }
 {
     let class = extent.class;
-    let span = along(extent.axis, &piece.rect);
+    let span = piece.rect.along(extent.axis);
     let space = class.space.max(piece.space) as u32;
     put_zone(queue, &span, class.half as u32 + space, extent.size);
     put_zone(queue, &span, class.pad as u32 + space, extent.size);
@@ -78,8 +68,8 @@ fn put_coordinates<P: Pieces>(queue: &mut Queue<'_, u32>, extent: &Extent, regis
     requires { HasRoom (4 * length (P.pieces register.now) + 2) queue.old }
     ensures { Puts (extent_coordinates extent.now (P.pieces register.now)) queue.old queue.new }
 {
-    queue.put(extent.first);
-    queue.put(extent.second);
+    queue.put(extent.first).unwrap();
+    queue.put(extent.second).unwrap();
     put_pieces(queue, extent, register);
 }
 

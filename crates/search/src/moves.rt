@@ -1,44 +1,15 @@
 // The moves between the nodes of a grid: which are free, and what they cost.
-ghost use Rattle.std.specs.Prelude.{◌≡◌, ◌≤◌, false};
+ghost use Rattle.std.specs.Prelude.{◌≡◌, ◌≤◌};
 ghost use Rattle.costs.specs.Amounts.{tariff};
-ghost use Rattle.routes.specs.Routes.{gap as gap_of, span, box, on_free_ground, price as price_of};
+ghost use Rattle.routes.specs.Routes.{on_free_ground, price as price_of};
 ghost use Rattle.routes.specs.Rules.{free as is_free};
 ghost use Rattle.search.specs.Grids.{grid_points, grid_rules, join, InReach, Adjoin};
 
 use crate::grid::Grid;
 use costs::CostKind;
 use costs::doubling::times;
-use geometry::{Point, Question, Rect, Span};
+use geometry::{Point, Question, Rect};
 use registers::Pieces;
-
-/// How far apart two coordinates are.
-fn gap(a: u32, b: u32) -> u32
-    ensures { result ≡ gap_of a b }
-{
-    a.max(b) - a.min(b)
-}
-
-/// The closed span between two coordinates.
-fn span_of(a: u32, b: u32) -> Span
-    requires { (a ≤ 60000) × (b ≤ 60000) }
-    ensures { result ≡ span a b }
-{
-    Span {
-        low: a.min(b) as i32,
-        high: a.max(b) as i32,
-    }
-}
-
-/// The closed box from a point to another.
-fn box_of(p: &Point, q: &Point) -> Rect
-    requires { InReach p.now × InReach q.now }
-    ensures { result ≡ box p.now q.now }
-{
-    Rect {
-        x: span_of(p.x, q.x),
-        y: span_of(p.y, q.y),
-    }
-}
 
 impl<'a, K, P> Grid<'a, K, P> {
     /// The point of a node, if there is such a node.
@@ -76,9 +47,9 @@ impl<'a, K, P: Pieces> Grid<'a, K, P> {
         ensures { Adjoin p.now q.now → result ≡ on_free_ground (grid_rules (P.Pieces.pieces self.now.register.now) self.now) p.now (join p.now q.now) }
     {
         if p.layer == q.layer {
-            return self.is_clear(p.layer as u8, self.request.class.half, &box_of(p, q));
+            return self.is_clear(p.layer as u8, self.request.class.half, &Rect::between(p, q));
         }
-        let area = box_of(p, p);
+        let area = Rect::between(p, p);
         self.is_clear(p.layer as u8, self.request.class.pad, &area)
             && self.is_clear(q.layer as u8, self.request.class.pad, &area)
     }
@@ -97,9 +68,9 @@ impl<'a, K: CostKind, P> Grid<'a, K, P> {
         }
         let layer = p.layer as u8;
         if p.y == q.y {
-            times(kind.step_x(layer), gap(p.x, q.x))
+            times(kind.step_x(layer), p.x.abs_diff(q.x))
         } else {
-            times(kind.step_y(layer), gap(p.y, q.y))
+            times(kind.step_y(layer), p.y.abs_diff(q.y))
         }
     }
 }

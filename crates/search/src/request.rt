@@ -1,15 +1,14 @@
 // What a request asks: a connection of two terminals on a panel.
-use geometry::{Class, Point};
+use geometry::{Axis, Class, Point, Size};
 
-/// An axis of the panel.
-#[derive(Clone, Copy, Debug, PartialEq, Eq)]
-pub enum Axis {
-    X,
-    Y,
-}
+/// The longest side of a panel, in units.
+pub const SIDE: u32 = 60_000;
+
+/// The most layers of a panel.
+pub const LAYERS: u32 = 8;
 
 /// What a request asks along one axis: the panel's size, the class and the net, and the coordinates of both terminals.
-#[derive(Clone, Copy)]
+#[derive(Clone, Copy, Debug, PartialEq, Eq)]
 pub struct Extent {
     pub axis: Axis,
     pub size: u32,
@@ -19,12 +18,10 @@ pub struct Extent {
     pub second: u32,
 }
 
-/// The sizes of the panel, the class and the net of a connection, and its terminals.
-#[derive(Clone, Copy)]
+/// The size of the panel, the class and the net of a connection, and its terminals.
+#[derive(Clone, Copy, Debug, PartialEq, Eq)]
 pub struct Request {
-    pub width: u32,
-    pub height: u32,
-    pub layers: u32,
+    pub size: Size,
     pub class: Class,
     pub net: u8,
     pub first: Point,

@@ -1,6 +1,6 @@
 use Rattle.std.proofs.Common.{length, refl}
 use Rattle.costs.specs.Amounts.{tariff}
-use Rattle.search.specs.declared.request.Axis.TheVariants.{X, Y}
+use Rattle.geometry.specs.declared.axis.Axis.TheVariants.{X, Y}
 use Rattle.search.proofs.Costs.{part_long, part_lines, part_near, narrow, low, told_cost, not_early}
 use Rattle.search.proofs.Leasts.{is_so, lines_on}
 use Rattle.search.proofs.least.least_cost.Goals as goal
@@ -16,8 +16,8 @@ invariant_of-grid g c =
     let upright = a.1.upright in record {
       columns = part_long _ c.draw_lattice.new.xs l.columns across;
       rows = part_long _ c.draw_lattice.new.ys l.rows upright;
-      near = part_near _ c.draw_lattice.new.xs l.columns across q.width (lines_on q h X ps) (narrow q h);
-      close = part_near _ c.draw_lattice.new.ys l.rows upright q.height (lines_on q h Y ps) (low q h);
+      near = part_near _ c.draw_lattice.new.xs l.columns across q.size.width (lines_on q h X ps) (narrow q h);
+      close = part_near _ c.draw_lattice.new.ys l.rows upright q.size.height (lines_on q h Y ps) (low q h);
     }
 
 pub returns : goal.returns

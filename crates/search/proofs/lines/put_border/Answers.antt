@@ -11,4 +11,4 @@ returns-in-Some c =
     let same = to_z-of_z w64 c.args.border c.ranges.border in
     let is = c.in-Some.ensures ∙ ap (λ z. on_panel c.args.far (z ∷ [])) same in
     subst (λ ns. Puts ns c.args.queue.now c.put.new.self) is
-    (puts_one c.args.queue.now c.put.new.self c.in-Some.x c.put.result c.requires p.test p.waits p.order p.room)
+    (puts_one c.args.queue.now c.put.new.self c.in-Some.x c.put.result c.unwrap.ensures p.waits p.order p.slots)

@@ -11,10 +11,7 @@ returns g c =
     let q₂ = c.put-2.new.self in
     let p = c.put.ensures in
     let p₂ = c.put-2.ensures in
-    let room : HasRoom 1 q = omega (arith, c.requires) in
-    let one = puts_one q q₁ e.first c.put.result room p.test p.waits p.order p.room in
-    let room₁ : HasRoom 1 q₁ = room_left q q₁ (e.first ∷ []) 2 1 one (omega (arith, c.requires)) (omega arith) in
-    let two = puts_one q₁ q₂ e.second c.put-2.result room₁ p₂.test p₂.waits p₂.order p₂.room in
-    puts_more q q₂ c.put_pieces.new.queue (e.first ∷ e.second ∷ [])
-    (all_borders e (g.P.Pieces.pieces c.args.register.now))
+    let one = puts_one q q₁ e.first c.put.result c.unwrap.ensures p.waits p.order p.slots in
+    let two = puts_one q₁ q₂ e.second c.put-2.result c.unwrap-2.ensures p₂.waits p₂.order p₂.slots in
+    puts_more q q₂ c.put_pieces.new.queue (e.first ∷ e.second ∷ []) (all_borders e (g.P.Pieces.pieces c.args.register.now))
     (puts_more q q₁ q₂ (e.first ∷ []) (e.second ∷ []) one two) c.put_pieces.ensures
