@@ -1,10 +1,13 @@
 -- The moves that join points, and what a run costs. Assumes nothing.
-use Rattle.std.proofs.Common.{◌≡◌, ℕ, ◌*◌, ◌^◌, ◌<◌, ◌≤◌, cond, eqb, sym, ap, ◌∙◌, subst, mul-le-mul, arith, eq-eqb, ne_eqb}
+use Rattle.std.proofs.Common.{◌≡◌, ℕ, ◌*◌, ◌^◌, ◌<◌, ◌≤◌, Bool, true, false, cond, eqb, sym, refl, ap, ◌∙◌, subst, mul-le-mul, arith, eq-eqb, ne_eqb}
+use Rattle.geometry.specs.declared.axis.Axis.{Axis}
+use Rattle.geometry.specs.declared.axis.Axis.TheVariants.{X, Y}
 use Rattle.geometry.specs.declared.point.Point.{Point}
-use Rattle.costs.specs.Amounts.{Sums, Laws, times}
+use Rattle.geometry.specs.Axes.{coordinate_of}
+use Rattle.costs.specs.Amounts.{Sums, Laws, Prices, step_price, tariff, times}
 use Rattle.costs.proofs.Times.{bulk_times}
-use Rattle.routes.specs.Routes.{along_x, along_y, to_layer}
-use Rattle.search.specs.Grids.{join}
+use Rattle.routes.specs.Routes.{along_x, along_y, to_layer, gap, price}
+use Rattle.search.specs.Grids.{join, run_axis, InReach}
 
 pub join_x : (p q : Point) → p.layer ≡ q.layer → p.y ≡ q.y → join p q ≡ along_x q.x
 join_x p q e f =
@@ -20,6 +23,21 @@ pub join_via : (p q : Point) → (p.layer ≡ q.layer → ⊥) → join p q ≡ 
 join_via p q e =
     ap (λ b. cond b (cond (eqb p.y q.y) (along_x q.x) (along_y q.y)) (to_layer q.layer)) (ne_eqb p.layer q.layer e)
 
+-- what a run costs
+pub run_price : {C M : Type 0} (prices : Prices C) (sums : Sums M) (means : C → M) (p q : Point) (a : Axis) → p.layer ≡ q.layer
+    → a ≡ run_axis p q
+    → times sums (gap (coordinate_of a p) (coordinate_of a q)) (means (step_price a prices p.layer))
+    ≡ price (tariff sums means prices) p (join p q)
+run_price prices sums means p q a e is =
+    subst (λ v. times sums (gap (coordinate_of v p) (coordinate_of v q)) (means (step_price v prices p.layer)) ≡ price (tariff sums means prices) p (join p q)) (sym is)
+    (pick (eqb p.y q.y)
+    ∙ ap (λ b. price (tariff sums means prices) p (cond b (cond (eqb p.y q.y) (along_x q.x) (along_y q.y)) (to_layer q.layer))) (sym (eq-eqb p.layer q.layer e)))
+  where
+    pick : (b : Bool) → times sums (gap (coordinate_of (cond b X Y) p) (coordinate_of (cond b X Y) q)) (means (step_price (cond b X Y) prices p.layer))
+        ≡ price (tariff sums means prices) p (cond b (along_x q.x) (along_y q.y))
+    pick true = refl
+    pick false = refl
+
 -- a run of at most 60,000 units at the price of a unit
 module _ {M : Type 0} (s : Sums M) (laws : Laws s) (k : ℕ) (unit r : M) (far : k ≤ 60000) (small : s.bulk unit ≤ 65535)
     (is : k * s.bulk unit < 2 ^ 62 → r ≡ times s k unit) where
@@ -31,3 +49,7 @@ module _ {M : Type 0} (s : Sums M) (laws : Laws s) (k : ℕ) (unit r : M) (far :
 
   pub run_light : s.bulk r ≤ 3932100000
   run_light = subst (λ v. s.bulk v ≤ 3932100000) (sym run_exact) (omega (arith, whole, bulk_times laws k unit))
+
+pub reach_along : (a : Axis) (p : Point) → InReach p → coordinate_of a p ≤ 60000
+reach_along X p h = h.right
+reach_along Y p h = h.top

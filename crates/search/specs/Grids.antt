@@ -1,11 +1,14 @@
 -- The grid of a request: where its nodes lie, which moves between them are free and what they cost. Assumes nothing.
---     point_of l X Y n         the point of a node
+--     point_of l xs ys n       the point of a node
 --     join p q, joins ps       the move that joins two points; the moves that join points, one behind the other
+--     run_axis p q             the axis along which two points of a layer are joined
 --     grid_shape ps g          the grid as a graph, where these pieces stand
 --     grid_price prices .. g   the price of the move from a node to another
 use Rattle.std.specs.Prelude.{◌≡◌, ℕ, ◌+◌, ◌≤◌, true, false, cond, List, [], ◌∷◌, Some, None, Option, ◌==◌, nat_eq, nat_lt, slice_index}
 use Rattle.costs.specs.Amounts.{Sums, Prices, tariff}
 use Rattle.frontier.specs.Graphs.{Shape}
+use Rattle.geometry.specs.declared.axis.Axis.{Axis}
+use Rattle.geometry.specs.declared.axis.Axis.TheVariants.{X, Y}
 use Rattle.geometry.specs.declared.piece.Piece.{Piece}
 use Rattle.geometry.specs.declared.point.Point.{Point}
 use Rattle.routes.specs.Routes.{Move, along_x, along_y, to_layer, gap, Rules, on_free_ground, price}
@@ -15,14 +18,17 @@ use Rattle.search.specs.declared.lattice.Lattice.{Lattice}
 use Rattle.search.specs.Nodes.{node_total, crossing_at, next_of}
 
 abbrev pub point_of : Lattice → List ℕ → List ℕ → ℕ → Point
-point_of l X Y n =
-    record { layer = (crossing_at l n).level + 1; x = slice_index X (crossing_at l n).column; y = slice_index Y (crossing_at l n).row }
+point_of l xs ys n =
+    record { layer = (crossing_at l n).level + 1; x = slice_index xs (crossing_at l n).column; y = slice_index ys (crossing_at l n).row }
 
 abbrev pub grid_points : {K P : Type 0} → Grid K P → ℕ → Option Point
 grid_points g n = cond (nat_lt n (node_total g.lattice)) (Some (point_of g.lattice g.xs.now g.ys.now n)) None
 
 abbrev pub join : Point → Point → Move
 join p q = cond (p.layer == q.layer) (cond (p.y == q.y) (along_x q.x) (along_y q.y)) (to_layer q.layer)
+
+abbrev pub run_axis : Point → Point → Axis
+run_axis p q = cond (p.y == q.y) X Y
 
 -- the moves that join a point and those that follow
 abbrev pub joins_from : Point → List Point → List Move

@@ -3,12 +3,12 @@ ghost use Rattle.std.specs.Prelude.{◌≡◌, ◌≤◌};
 ghost use Rattle.costs.specs.Amounts.{tariff};
 ghost use Rattle.routes.specs.Routes.{on_free_ground, price as price_of};
 ghost use Rattle.routes.specs.Rules.{free as is_free};
-ghost use Rattle.search.specs.Grids.{grid_points, grid_rules, join, InReach, Adjoin};
+ghost use Rattle.search.specs.Grids.{grid_points, grid_rules, run_axis, join, InReach, Adjoin};
 
 use crate::grid::Grid;
 use costs::CostKind;
 use costs::doubling::times;
-use geometry::{Point, Question, Rect};
+use geometry::{Axis, Point, Question, Rect};
 use registers::Pieces;
 
 impl<'a, K, P> Grid<'a, K, P> {
@@ -55,6 +55,13 @@ impl<'a, K, P: Pieces> Grid<'a, K, P> {
     }
 }
 
+/// The axis along which two points of a layer are joined.
+fn run_axis(p: &Point, q: &Point) -> Axis
+    ensures { result ≡ run_axis p.now q.now }
+{
+    if p.y == q.y { Axis::X } else { Axis::Y }
+}
+
 impl<'a, K: CostKind, P> Grid<'a, K, P> {
     /// What the move from a point to the next costs.
     pub(crate) fn price(&self, p: &Point, q: &Point) -> K::Amount
@@ -66,11 +73,8 @@ impl<'a, K: CostKind, P> Grid<'a, K, P> {
         if p.layer != q.layer {
             return kind.via(p.layer.min(q.layer) as u8);
         }
-        let layer = p.layer as u8;
-        if p.y == q.y {
-            times(kind.step_x(layer), p.x.abs_diff(q.x))
-        } else {
-            times(kind.step_y(layer), p.y.abs_diff(q.y))
-        }
+        let axis = run_axis(p, q);
+        let step = kind.step(axis, p.layer as u8);
+        times(step, p.along(axis).abs_diff(q.along(axis)))
     }
 }
