@@ -19,23 +19,3 @@ invariant_of-grid g c =
       near = part_near _ c.draw_lattice.new.xs l.columns across q.size.width (lines_on q h X ps) (narrow q h);
       close = part_near _ c.draw_lattice.new.ys l.rows upright q.size.height (lines_on q h Y ps) (low q h);
     }
-
-pub returns : goal.returns
-returns g c =
-    let q = c.args.request.now in
-    let ps = g.P.Pieces.pieces c.args.register.now in
-    let a = c.in_ok-lattice.ensures.answer in
-    let amount = g.K.Amount.Amount in
-    let tf = tariff amount.sums amount.means (g.K.CostKind.prices c.args.kind) in
-    let l = c.in_ok-lattice.lattice in
-    let path = c.find_path.ensures.answer a.0.is_proper (record {
-      layers_is = a.1.layers_is;
-      across = part_lines _ c.draw_lattice.new.xs l.columns a.1.across;
-      upright = part_lines _ c.draw_lattice.new.ys l.rows a.1.upright;
-    }) in
-    record {
-      answer = told_cost tf amount.means q ps (length c.args.coordinates.now) (length c.args.xs.now) (length c.args.ys.now)
-          (length c.args.nodes.now) (length c.args.frontier.now) c.find_path.result a.0 path;
-      unchanged = λ e. absurd (not_early tf amount.means q ps (length c.args.coordinates.now) (length c.args.xs.now)
-          (length c.args.ys.now) (length c.args.nodes.now) (length c.args.frontier.now) c.find_path.result path e);
-    }
