@@ -48,31 +48,24 @@ module _ (ns : List ℕ) (climbs : Climbs ns) where
       (all_of_from (λ q. not (between a b q)) ns (λ q i. not_between a b q (none q (mem_in q ns i)))))
 
   -- no number lies between one and the next
-  gap_free : (i q : ℕ) → i + 1 < length ns → T (mem q ns) → (get_or ns i 0 < q) × (q < get_or ns (i + 1) 0) → ⊥
-  gap_free i q h m b =
+  gap_free : (i j q : ℕ) → i + 1 ≡ j → j < length ns → T (mem q ns) → (get_or ns i 0 < q) × (q < get_or ns j 0) → ⊥
+  gap_free i j q e h m b =
       let p = mem_place q ns m in
       elim (cases_lt i p.0) [
-        | inl l ↦ omega (arith, rises (i + 1) p.0 (omega arith) p.1, p.2, b.1)
+        | inl l ↦ omega (arith, rises j p.0 (omega arith) p.1, p.2, b.1)
         | inr l ↦ omega (arith, rises p.0 i l (omega arith), p.2, b.0)
       ]
 
-  pub next_up : (i : ℕ) → i + 1 < length ns → T (neighbours ns (get_or ns i 0) (get_or ns (i + 1) 0))
-  next_up i h =
-      let a = get_or ns i 0 in
-      let b = get_or ns (i + 1) 0 in
-      let less : a < b = climbs i (i + 1) (omega arith) h in
-      neighbours_from a b (place_mem a ns i (omega arith) refl) (place_mem b ns (i + 1) h refl) (λ e. omega arith)
-      (λ q m k. gap_free i q h m (omega (arith, k.0), omega (arith, k.1)))
-
-  pub next_down : (i : ℕ) → 0 < i → i < length ns → T (neighbours ns (get_or ns i 0) (get_or ns (i - 1) 0))
-  next_down i some h =
-      let a = get_or ns i 0 in
-      let b = get_or ns (i - 1) 0 in
-      let less : b < a = climbs (i - 1) i (omega arith) h in
-      let up : i - 1 + 1 ≡ i = omega arith in
-      neighbours_from a b (place_mem a ns i h refl) (place_mem b ns (i - 1) (omega arith) refl) (λ e. omega arith)
-      (λ q m k. gap_free (i - 1) q (omega arith) m
-      (omega (arith, k.0), subst (λ v. q < get_or ns v 0) (sym up) (let m : q < a = omega (arith, k.1) in m)))
+  -- numbers side by side are neighbours
+  pub next_to : (i j : ℕ) → (j + 1 ≡ i) ⊎ (i + 1 ≡ j) → i < length ns → j < length ns → T (neighbours ns (get_or ns i 0) (get_or ns j 0))
+  next_to i j (inl e) h k =
+      let less : get_or ns j 0 < get_or ns i 0 = climbs j i (omega arith) h in
+      neighbours_from _ _ (place_mem _ ns i h refl) (place_mem _ ns j k refl) (λ e. omega arith)
+      (λ q m b. gap_free j i q e h m (omega (arith, b.0), omega (arith, b.1)))
+  next_to i j (inr e) h k =
+      let less : get_or ns i 0 < get_or ns j 0 = climbs i j (omega arith) k in
+      neighbours_from _ _ (place_mem _ ns i h refl) (place_mem _ ns j k refl) (λ e. omega arith)
+      (λ q m b. gap_free i j q e k m (omega (arith, b.0), omega (arith, b.1)))
 
   -- a neighbour of the number at i stands before it or behind it
   pub adjacent : (i v : ℕ) → i < length ns → T (neighbours ns (get_or ns i 0) v)

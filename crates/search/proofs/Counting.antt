@@ -1,8 +1,14 @@
 -- How many numbers are in a list without repeats. Assumes nothing.
-use Rattle.std.proofs.Common.{◌≡◌, ℕ, zero, suc, ◌+◌, ◌*◌, ◌<◌, ◌≤◌, Bool, true, false, cond, not, ◌||◌, T, eqb, ltb, List, [], ◌∷◌, length, get_or, take, filter, Some, None, Option, sym, refl, ap, ◌∙◌, subst, inl, inr, arith, eqb→eq, length-take, eqb-true, lt-ltb}
+use Rattle.std.proofs.Common.{◌≡◌, ℕ, zero, suc, ◌+◌, ◌*◌, ◌<◌, ◌≤◌, Bool, true, false, cond, not, ◌||◌, T, eqb, ltb, List, [], ◌∷◌, length, get_or, take, filter, Some, None, Option, sym, refl, ap, ◌∙◌, subst, inl, inr, arith, eqb→eq, length-take, eqb-true, lt-ltb, ne_eqb}
 use lib.Dec.{eqb_refl}
 use Rattle.std.specs.Option.{IfSome, ok_or}
-use Rattle.std.specs.List.{ContainsAt as Has, AllByRecursion, position, position_or_len}
+use Rattle.std.specs.List.{ContainsAt as Has, AllByRecursion, IsDistinct, position, position_or_len}
+use Rattle.std.specs.Cmp.{nat_eq_equiv}
+use Rattle.std.specs.Set.{unique_keys, distinct_count, is_member}
+use Rattle.std.proofs.lemmas.Float.{T_from_true}
+use Rattle.std.proofs.lemmas.Grind.{get_or_default_zero}
+use Rattle.std.proofs.lemmas.Map.Keys.{IsDistinct-from_apart}
+use Rattle.std.proofs.lemmas.Map.Made.{length-le_from_is_member, length-from_keys}
 use Rattle.std.specs.List.Sorted.{IsPermutation}
 use Rattle.std.proofs.lemmas.List.Sums.{prefix_len_passes}
 use Rattle.std.proofs.lemmas.List.Quantifiers.{position-Some}
@@ -13,6 +19,7 @@ use Rattle.queue.proofs.Uses.{drained_shuffled}
 use Rattle.routes.proofs.Bools.{either, first, second}
 use Rattle.routes.proofs.Listed.{mem_distinct}
 use Rattle.search.specs.declared.lines.Undrawn.TheVariants.{TooManyLines}
+use Rattle.search.specs.Lattices.{T_true}
 use Rattle.search.specs.Located.{AtPlace}
 use Rattle.search.specs.Drawing.{ToldLines, ToldDrawn}
 
@@ -63,66 +70,19 @@ same_test true false f g = absurd (f tt)
 same_test false true f g = absurd (g tt)
 same_test false false f g = refl
 
--- each number once
+-- each number once, in std's words
 
-abbrev pub Unrepeated : List ℕ → Type 0
-Unrepeated [] = Unit {0}
-Unrepeated (n ∷ ns) = (T (mem n ns) → ⊥) × Unrepeated ns
+mem_member : (n : ℕ) (ns : List ℕ) → mem n ns ≡ is_member eqb ns n
+mem_member n [] = refl
+mem_member n (m ∷ ns) = ap (λ b. eqb n m || b) (mem_member n ns)
 
-abbrev without : ℕ → List ℕ → List ℕ
-without d = filter (λ n. not (eqb d n))
+distinct_keys : (ns : List ℕ) → distinct ns ≡ unique_keys eqb ns
+distinct_keys [] = refl
+distinct_keys (n ∷ ns) = λ i. cond (mem_member n ns i) (distinct_keys ns i) (n ∷ distinct_keys ns i)
 
-mem_without : (d n : ℕ) (ns : List ℕ) → (n ≡ d → ⊥) → T (mem n ns) → T (mem n (without d ns))
-mem_without d n [] apart h = absurd h
-mem_without d n (m ∷ ns) apart h = elim (either (eqb n m) (mem n ns) h) [
-  | inl e ↦ here (eqb d m) (λ t. apart (eqb→eq n m e ∙ sym (eqb→eq d m t))) e
-  | inr r ↦ there (eqb d m) (mem_without d n ns apart r)
-]
-  where
-    here : (b : Bool) → (T b → ⊥) → T (eqb n m) → T (mem n (cond (not b) (m ∷ without d ns) (without d ns)))
-    here true f e = absurd (f tt)
-    here false f e = first (eqb n m) (mem n (without d ns)) e
-
-    there : (b : Bool) → T (mem n (without d ns)) → T (mem n (cond (not b) (m ∷ without d ns) (without d ns)))
-    there true k = k
-    there false k = second (eqb n m) (mem n (without d ns)) k
-
-no_more_without : (d : ℕ) (ns : List ℕ) → length (without d ns) ≤ length ns
-no_more_without d [] = omega arith
-no_more_without d (m ∷ ns) = pick (eqb d m) (no_more_without d ns)
-  where
-    pick : (b : Bool) → length (without d ns) ≤ length ns
-        → length (cond (not b) (m ∷ without d ns) (without d ns)) ≤ length (m ∷ ns)
-    pick true h = omega arith
-    pick false h = omega arith
-
-fewer_without : (d : ℕ) (ns : List ℕ) → T (mem d ns) → length (without d ns) < length ns
-fewer_without d [] h = absurd h
-fewer_without d (m ∷ ns) h = pick (eqb d m) (λ f. elim (either (eqb d m) (mem d ns) h) [
-  | inl e ↦ absurd (f e)
-  | inr r ↦ fewer_without d ns r
-])
-  where
-    pick : (b : Bool) → ((T b → ⊥) → length (without d ns) < length ns)
-        → length (cond (not b) (m ∷ without d ns) (without d ns)) < length (m ∷ ns)
-    pick true f = omega (arith, no_more_without d ns)
-    pick false f = omega (arith, f (λ t. t))
-
--- numbers without repeats that are all among others are no more than these
-pub no_more : (ds ns : List ℕ) → Unrepeated ds → ((n : ℕ) → T (mem n ds) → T (mem n ns)) → length ds ≤ length ns
-no_more [] ns u h = omega arith
-no_more (d ∷ ds) ns u h =
-    let rest : length ds ≤ length (without d ns) =
-    no_more ds (without d ns) u.1
-    (λ n k. mem_without d n ns (λ e. u.0 (subst (λ v. T (mem v ds)) e k)) (h n (second (eqb n d) (mem n ds) k))) in
-    omega (arith, rest, fewer_without d ns (h d (first (eqb d d) (mem d ds) (eqb_refl d))))
-
-pub climbs_once : (ns : List ℕ) → Climbs ns → Unrepeated ns
-climbs_once [] c = tt
-climbs_once (n ∷ ns) c = (
-  (λ h. let p = mem_place n ns h in omega (arith, c 0 (suc p.0) (omega arith) (omega (arith, p.1)), p.2)),
-  climbs_once ns (λ i j h k. c (suc i) (suc j) (omega arith) (omega arith)),
-)
+climbs_once : (ns : List ℕ) → Climbs ns → IsDistinct eqb ns
+climbs_once ns c = IsDistinct-from_apart eqb ns (λ i j d h k. ne_eqb (get_or ns i d) (get_or ns j d) (λ e.
+    omega (arith, c i j h k, get_or_default_zero ns i d (omega arith), get_or_default_zero ns j d k, e)))
 
 pub mem_undistinct : (n : ℕ) (ns : List ℕ) → T (mem n (distinct ns)) → T (mem n ns)
 mem_undistinct n [] h = h
@@ -136,13 +96,8 @@ mem_undistinct n (m ∷ ns) h = pick (mem m ns) (mem_undistinct n ns) h
       | inr r ↦ second (eqb n m) (mem n ns) (f r)
     ]
 
-pub distinct_once : (ns : List ℕ) → Unrepeated (distinct ns)
-distinct_once [] = tt
-distinct_once (n ∷ ns) = pick (mem n ns) (λ t. t) (distinct_once ns)
-  where
-    pick : (b : Bool) → (T (mem n ns) → T b) → Unrepeated (distinct ns) → Unrepeated (cond b (distinct ns) (n ∷ distinct ns))
-    pick true f u = u
-    pick false f u = ((λ k. f (mem_undistinct n ns k)), u)
+mem_of_distinct : (n : ℕ) (ns : List ℕ) → mem n (distinct ns) ≡ mem n ns
+mem_of_distinct n ns = same_test (mem n (distinct ns)) (mem n ns) (mem_undistinct n ns) (mem_distinct n ns)
 
 -- the lines that were found
 
@@ -151,24 +106,24 @@ pub told_lines : (xs out : List ℕ) (n : ℕ) → Collected 1024 xs (take n out
 told_lines xs out n c few inside =
     let d = c.distinct in
     let ys = take n out in
-    let long : length ys ≡ n = length-take n out ∙ omega arith in
-    let up : (v : ℕ) → T (mem v ys) → T (mem v (distinct xs)) =
-    λ v h. mem_distinct v xs (has_mem v xs (mem_has_all (Has xs) ys v d.among h)) in
-    let down : (v : ℕ) → T (mem v (distinct xs)) → T (mem v ys) =
-    λ v h. has_mem v ys (mem_has_all (Has ys) xs v d.all (mem_undistinct v xs h)) in
+    let same : (v : ℕ) → mem v ys ≡ mem v xs = λ v. same_test (mem v ys) (mem v xs)
+    (λ h. has_mem v xs (mem_has_all (Has xs) ys v d.among h)) (λ h. has_mem v ys (mem_has_all (Has ys) xs v d.all h)) in
+    let count : length ys ≡ distinct_count eqb xs = length-from_keys nat_eq_equiv ys xs (climbs_once ys d.climbs)
+    (λ v. sym (mem_member v ys) ∙ (same v ∙ mem_member v xs)) in
     record {
-      number = omega (arith, long, no_more ys (distinct xs) (climbs_once ys d.climbs) up, no_more (distinct xs) ys (distinct_once xs) down);
+      number = omega (arith, length-take n out, count, ap length (distinct_keys xs));
       few = few;
       inside = inside;
       climbs = d.climbs;
-      same = λ v. same_test (mem v ys) (mem v (distinct xs)) (up v) (down v);
+      same = λ v. same v ∙ sym (mem_of_distinct v xs);
     }
 
 pub too_many : (xs : List ℕ) → MoreThan 1024 xs → 1024 < length (distinct xs)
 too_many xs m =
-    let up : (v : ℕ) → T (mem v m.some) → T (mem v (distinct xs)) =
-    λ v h. mem_distinct v xs (has_mem v xs (mem_has_all (Has xs) m.some v m.among h)) in
-    omega (arith, m.count, no_more m.some (distinct xs) (climbs_once m.some m.climbs) up)
+    let among : (v : ℕ) → is_member eqb m.some v ≡ true → is_member eqb (distinct xs) v ≡ true =
+    λ v h. sym (mem_member v (distinct xs)) ∙ T_true _ (mem_distinct v xs
+    (has_mem v xs (mem_has_all (Has xs) m.some v m.among (T_from_true _ (mem_member v m.some ∙ h))))) in
+    omega (arith, m.count, length-le_from_is_member nat_eq_equiv m.some (distinct xs) (climbs_once m.some m.climbs) among)
 
 -- what is drawn where the coordinates of the lines were put into an empty queue
 module _ (xs ws old out : List ℕ) (put : IsPermutation xs ws) (long : 1024 ≤ length old) (kept : 1024 ≤ length out) where

@@ -23,21 +23,6 @@ pub join_via : (p q : Point) → (p.layer ≡ q.layer → ⊥) → join p q ≡ 
 join_via p q e =
     ap (λ b. cond b (cond (eqb p.y q.y) (along_x q.x) (along_y q.y)) (to_layer q.layer)) (ne_eqb p.layer q.layer e)
 
--- what a run costs
-pub run_price : {C M : Type 0} (prices : Prices C) (sums : Sums M) (means : C → M) (p q : Point) (a : Axis) → p.layer ≡ q.layer
-    → a ≡ run_axis p q
-    → times sums (gap (coordinate_of a p) (coordinate_of a q)) (means (step_price a prices p.layer))
-    ≡ price (tariff sums means prices) p (join p q)
-run_price prices sums means p q a e is =
-    subst (λ v. times sums (gap (coordinate_of v p) (coordinate_of v q)) (means (step_price v prices p.layer)) ≡ price (tariff sums means prices) p (join p q)) (sym is)
-    (pick (eqb p.y q.y)
-    ∙ ap (λ b. price (tariff sums means prices) p (cond b (cond (eqb p.y q.y) (along_x q.x) (along_y q.y)) (to_layer q.layer))) (sym (eq-eqb p.layer q.layer e)))
-  where
-    pick : (b : Bool) → times sums (gap (coordinate_of (cond b X Y) p) (coordinate_of (cond b X Y) q)) (means (step_price (cond b X Y) prices p.layer))
-        ≡ price (tariff sums means prices) p (cond b (along_x q.x) (along_y q.y))
-    pick true = refl
-    pick false = refl
-
 -- a run of at most 60,000 units at the price of a unit
 module _ {M : Type 0} (s : Sums M) (laws : Laws s) (k : ℕ) (unit r : M) (far : k ≤ 60000) (small : s.bulk unit ≤ 65535)
     (is : k * s.bulk unit < 2 ^ 62 → r ≡ times s k unit) where

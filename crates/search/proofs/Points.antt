@@ -1,5 +1,5 @@
 -- Where the nodes of a grid lie. Assumes nothing.
-use Rattle.std.proofs.Common.{◌≡◌, ℕ, ◌+◌, ◌-◌, ◌<◌, Bool, true, false, cond, eqb, ltb, List, get_or, Some, None, sym, refl, ap, ◌∙◌, subst, arith, ltb-true, lt-ltb, eq-eqb, eqb-true}
+use Rattle.std.proofs.Common.{inl, inr, ◌≡◌, ℕ, ◌+◌, ◌-◌, ◌<◌, Bool, true, false, cond, eqb, ltb, List, get_or, Some, None, sym, refl, ap, ◌∙◌, subst, arith, ltb-true, lt-ltb, eq-eqb, eqb-true}
 use borrow.Author.Tests.{eqb-false}
 use Rattle.geometry.specs.declared.point.Point.{Point}
 use Rattle.routes.specs.Routes.{gap, Rules, on_free_ground}
@@ -7,9 +7,8 @@ use Rattle.search.specs.declared.grid.Grid.{Grid}
 use Rattle.search.specs.declared.lattice.Lattice.{Lattice}
 use Rattle.search.specs.declared.nodes.Crossing.{Crossing}
 use Rattle.search.specs.declared.nodes.Way.{Way}
-use Rattle.search.specs.declared.nodes.Way.TheVariants.{Left, Right, Down, Up, Below, Above}
 use Rattle.search.specs.Grids.{grid_points, grid_point, InReach, Adjoin, join}
-use Rattle.search.specs.Lattices.{crossing_on, crossing_back, beside_on, next_says, true_from}
+use Rattle.search.specs.Lattices.{On, beside_moved, crossing_on, crossing_back, beside_on, next_says, true_from}
 use Rattle.search.specs.Nodes.{node_total, crossing_at, beside, next_of, in_column, in_row, on_level}
 
 -- the point of a crossing
@@ -54,29 +53,16 @@ stacked p q h = record {
   via = λ _. h;
 }
 
-pub beside_adjoins : (l : Lattice) (X Y : List ℕ) (w : Way) (c d : Crossing) → Some d ≡ beside l w c
+pub beside_adjoins : (l : Lattice) (X Y : List ℕ) (w : Way) (c d : Crossing) → On l c → Some d ≡ beside l w c
     → Adjoin (place X Y c) (place X Y d)
-beside_adjoins l X Y Left c d e =
-    let t = true_from (ltb 0 c.column) (in_column c (c.column - 1)) d e in
-    subst (λ v. Adjoin (place X Y c) (place X Y v)) (sym t.1) (in_line _ _ refl (λ f. absurd (differ _ _ refl f)))
-beside_adjoins l X Y Right c d e =
-    let t = true_from (ltb c.column (l.columns - 1)) (in_column c (c.column + 1)) d e in
-    subst (λ v. Adjoin (place X Y c) (place X Y v)) (sym t.1) (in_line _ _ refl (λ f. absurd (differ _ _ refl f)))
-beside_adjoins l X Y Down c d e =
-    let t = true_from (ltb 0 c.row) (in_row c (c.row - 1)) d e in
-    subst (λ v. Adjoin (place X Y c) (place X Y v)) (sym t.1) (in_line _ _ refl (λ f. refl))
-beside_adjoins l X Y Up c d e =
-    let t = true_from (ltb c.row (l.rows - 1)) (in_row c (c.row + 1)) d e in
-    subst (λ v. Adjoin (place X Y c) (place X Y v)) (sym t.1) (in_line _ _ refl (λ f. refl))
-beside_adjoins l X Y Below c d e =
-    let t = true_from (ltb 0 c.level) (on_level c (c.level - 1)) d e in
-    let some : 0 < c.level = ltb-true 0 c.level t.0 in
-    subst (λ v. Adjoin (place X Y c) (place X Y v)) (sym t.1)
-    (stacked _ _ (eq-eqb (gap (c.level + 1) (c.level - 1 + 1)) 1 (omega arith)))
-beside_adjoins l X Y Above c d e =
-    let t = true_from (ltb c.level (l.layers - 1)) (on_level c (c.level + 1)) d e in
-    subst (λ v. Adjoin (place X Y c) (place X Y v)) (sym t.1)
-    (stacked _ _ (eq-eqb (gap (c.level + 1) (c.level + 1 + 1)) 1 (omega arith)))
+beside_adjoins l X Y w c d o e = elim (beside_moved l w c d o e) [
+  | inl m ↦ subst (λ v. Adjoin (place X Y c) (place X Y v)) (sym m.2) (in_line _ _ refl (λ f. absurd (differ _ _ refl f)))
+  | inr side ↦ elim side [
+    | inl m ↦ subst (λ v. Adjoin (place X Y c) (place X Y v)) (sym m.2) (in_line _ _ refl (λ f. refl))
+    | inr m ↦ subst (λ v. Adjoin (place X Y c) (place X Y v)) (sym m.2)
+        (stacked _ _ (eq-eqb (gap (c.level + 1) (m.0 + 1)) 1 (omega (arith, m.1.near))))
+  ]
+]
 
 pub next_adjoins : {K P : Type 0} (g : Grid K P) (n k v : ℕ) → n < node_total g.lattice → next_of g.lattice n k ≡ Some v
     → Adjoin (grid_point g n) (grid_point g v)
@@ -86,9 +72,10 @@ next_adjoins g n k v h e =
     let Y = g.ys.now in
     let s = next_says l n k v h e in
     let d = s.1 in
-    let on = beside_on l s.0 (crossing_at l n) d (crossing_on l n h) s.3 in
+    let o = crossing_on l n h in
+    let on = beside_on l s.0 (crossing_at l n) d o s.3 in
     let back : crossing_at l v ≡ d = ap (crossing_at l) s.4 ∙ crossing_back l d on in
-    subst (λ c. Adjoin (grid_point g n) (place X Y c)) (sym back) (beside_adjoins l X Y s.0 (crossing_at l n) d s.3)
+    subst (λ c. Adjoin (grid_point g n) (place X Y c)) (sym back) (beside_adjoins l X Y s.0 (crossing_at l n) d o s.3)
 
 -- a test of the points is one of the nodes
 pub free_known : (R : Rules) (p q p' q' : Point) (r : Bool) → p ≡ p' → q ≡ q' → Adjoin p' q'

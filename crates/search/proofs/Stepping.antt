@@ -14,9 +14,9 @@ use Rattle.search.specs.declared.nodes.Crossing.{Crossing}
 use Rattle.search.specs.declared.nodes.Way.{Way}
 use Rattle.search.specs.declared.nodes.Way.TheVariants.{Left, Right, Down, Up, Below, Above}
 use Rattle.search.specs.Grids.{join}
-use Rattle.search.specs.Lattices.{On, true_from}
+use Rattle.search.specs.Lattices.{On, beside_moved}
 use Rattle.search.specs.Nodes.{beside, in_column, in_row, on_level}
-use Rattle.search.proofs.Adjacent.{next_up, next_down, adjacent}
+use Rattle.search.proofs.Adjacent.{next_to, adjacent}
 use Rattle.search.proofs.Counting.{place_mem}
 use Rattle.search.proofs.Joins.{join_x, join_y, join_via}
 use Rattle.search.proofs.Points.{place}
@@ -60,29 +60,15 @@ module _ (l : Lattice) (X Y : List ℕ) (wide : l.columns ≡ length X) (high : 
       (join_via (place X Y c) (place X Y (on_level c j)) apart) (both _ _ (in_X c o) (in_Y c o)) refl
 
   pub beside_joined : (w : Way) (c d : Crossing) → On l c → Some d ≡ beside l w c → Joined X Y (place X Y c) (place X Y d)
-  beside_joined Left c d o e =
-      let t = true_from (ltb 0 c.column) (in_column c (c.column - 1)) d e in
-      subst (λ v. Joined X Y (place X Y c) (place X Y v)) (sym t.1)
-      (across c (c.column - 1) o (next_down X Xs c.column (ltb-true 0 c.column t.0) (omega (arith, o.column))))
-  beside_joined Right c d o e =
-      let t = true_from (ltb c.column (l.columns - 1)) (in_column c (c.column + 1)) d e in
-      subst (λ v. Joined X Y (place X Y c) (place X Y v)) (sym t.1)
-      (across c (c.column + 1) o (next_up X Xs c.column (omega (arith, ltb-true c.column (l.columns - 1) t.0))))
-  beside_joined Down c d o e =
-      let t = true_from (ltb 0 c.row) (in_row c (c.row - 1)) d e in
-      subst (λ v. Joined X Y (place X Y c) (place X Y v)) (sym t.1)
-      (upright c (c.row - 1) o (next_down Y Ys c.row (ltb-true 0 c.row t.0) (omega (arith, o.row))))
-  beside_joined Up c d o e =
-      let t = true_from (ltb c.row (l.rows - 1)) (in_row c (c.row + 1)) d e in
-      subst (λ v. Joined X Y (place X Y c) (place X Y v)) (sym t.1)
-      (upright c (c.row + 1) o (next_up Y Ys c.row (omega (arith, ltb-true c.row (l.rows - 1) t.0))))
-  beside_joined Below c d o e =
-      let t = true_from (ltb 0 c.level) (on_level c (c.level - 1)) d e in
-      let some : 0 < c.level = ltb-true 0 c.level t.0 in
-      subst (λ v. Joined X Y (place X Y c) (place X Y v)) (sym t.1) (through c (c.level - 1) o (λ h. omega arith))
-  beside_joined Above c d o e =
-      let t = true_from (ltb c.level (l.layers - 1)) (on_level c (c.level + 1)) d e in
-      subst (λ v. Joined X Y (place X Y c) (place X Y v)) (sym t.1) (through c (c.level + 1) o (λ h. omega arith))
+  beside_joined w c d o e = elim (beside_moved l w c d o e) [
+    | inl m ↦ subst (λ v. Joined X Y (place X Y c) (place X Y v)) (sym m.2)
+        (across c m.0 o (next_to X Xs c.column m.0 m.1.near (omega (arith, o.column)) (omega (arith, m.1.inside))))
+    | inr side ↦ elim side [
+      | inl m ↦ subst (λ v. Joined X Y (place X Y c) (place X Y v)) (sym m.2)
+          (upright c m.0 o (next_to Y Ys c.row m.0 m.1.near (omega (arith, o.row)) (omega (arith, m.1.inside))))
+      | inr m ↦ subst (λ v. Joined X Y (place X Y c) (place X Y v)) (sym m.2) (through c m.0 o (λ h. omega (arith, m.1.near)))
+    ]
+  ]
 
 -- a step of the lattice that a move makes
 pub record Steps (l : Lattice) (X Y : List ℕ) (c : Crossing) (m : Move) : Type 0 where

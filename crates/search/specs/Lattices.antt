@@ -1,6 +1,6 @@
 -- Nodes and crossings are the same, counted in two ways. Assumes nothing.
-use Rattle.std.specs.Prelude.{◌≡◌, ℕ, zero, suc, ◌+◌, ◌-◌, ◌*◌, ◌/◌, ◌%◌, ◌<◌, ◌≤◌, Bool, true, false, cond, ◌&&◌, T, ltb, Some, None, Option, nat_lt, refl}
-use Rattle.std.proofs.Common.{sym, ap, subst, ◌∙◌, mul_comm, mul_assoc, mul-le-mul, mod-lt, div-add-mod', div-lt_iff_lt-mul, arith, ltb→lt, lt→ltb, ltb-true, lt-ltb}
+use Rattle.std.specs.Prelude.{◌≡◌, ℕ, zero, suc, ◌+◌, ◌-◌, ◌*◌, ◌/◌, ◌%◌, ◌<◌, ◌≤◌, Bool, true, false, cond, ◌&&◌, T, ltb, ◌⊎◌, Some, None, Option, nat_lt, refl}
+use Rattle.std.proofs.Common.{inl, inr, sym, ap, subst, ◌∙◌, mul_comm, mul_assoc, mul-le-mul, mod-lt, div-add-mod', div-lt_iff_lt-mul, arith, ltb→lt, lt→ltb, ltb-true, lt-ltb}
 use Rattle.std.proofs.Math.Arith.{digits_lt, digits_div, digits_mod}
 use Rattle.std.specs.Option.{option_map}
 use Rattle.search.specs.declared.lattice.Lattice.{Lattice}
@@ -16,17 +16,6 @@ pub record On (l : Lattice) (c : Crossing) : Type 0 where
   pub column : c.column < l.columns
   pub row : c.row < l.rows
   pub level : c.level < l.layers
-
-pub on_says : (l : Lattice) (c : Crossing) → T (on_lattice l c) → On l c
-on_says l c h =
-    let a = ltb c.column l.columns in
-    let b = ltb c.row l.rows in
-    let d = ltb c.level l.layers in
-    record {
-      column = ltb→lt c.column l.columns (left a (b && d) h);
-      row = ltb→lt c.row l.rows (left b d (right a (b && d) h));
-      level = ltb→lt c.level l.layers (right b d (right a (b && d) h));
-    }
 
 pub on_from : (l : Lattice) (c : Crossing) → On l c → T (on_lattice l c)
 on_from l c o =
@@ -89,14 +78,10 @@ pub true_from : (b : Bool) {X : Type 0} (x y : X) → Some y ≡ cond b (Some x)
 true_from true x y e = (refl, cc)
 true_from false x y e = absurd (let z : ◌≡◌ {A = ℕ} 0 1 = cc in omega arith)
 
-pub known_crossing : (l : Lattice) (n : ℕ) (c : Crossing) → Some c ≡ crossing_known l n → (n < node_total l) × (c ≡ crossing_at l n)
-known_crossing l n c e =
-    let t = true_from (nat_lt n (node_total l)) (crossing_at l n) c e in (ltb-true n (node_total l) t.0, t.1)
-
 pub crossing_is : (l : Lattice) (n : ℕ) → n < node_total l → crossing_known l n ≡ Some (crossing_at l n)
 crossing_is l n h = ap (λ b. cond b (Some (crossing_at l n)) None) (lt-ltb n (node_total l) h)
 
-T_true : (b : Bool) → T b → b ≡ true
+pub T_true : (b : Bool) → T b → b ≡ true
 T_true true h = refl
 T_true false h = absurd h
 
@@ -110,36 +95,48 @@ crossing_of_node l c n o e =
 pub node_of_crossing : (l : Lattice) (n : ℕ) → n < node_total l → node_known l (crossing_at l n) ≡ Some n
 node_of_crossing l n h = node_is l (crossing_at l n) (crossing_on l n h) ∙ ap Some (node_back l n)
 
+-- a coordinate beside another, of so many
+pub record Beside (from size to : ℕ) : Type 0 where
+  pub near : (to + 1 ≡ from) ⊎ (from + 1 ≡ to)
+  pub inside : to < size
+
+-- a neighbour differs in one coordinate
+abbrev pub Moved : Lattice → Crossing → Crossing → Type 0
+Moved l c d =
+    ((j : ℕ) × Beside c.column l.columns j × (d ≡ in_column c j))
+    ⊎ (((j : ℕ) × Beside c.row l.rows j × (d ≡ in_row c j)) ⊎ ((j : ℕ) × Beside c.level l.layers j × (d ≡ on_level c j)))
+
+down : (from size : ℕ) → from < size → nat_lt 0 from ≡ true → Beside from size (from - 1)
+down from size h e = let some : 0 < from = ltb-true 0 from e in record { near = inl (omega arith); inside = omega arith }
+
+up : (from size : ℕ) → nat_lt from (size - 1) ≡ true → Beside from size (from + 1)
+up from size e = record { near = inr (omega arith); inside = omega (arith, ltb-true from (size - 1) e) }
+
+pub beside_moved : (l : Lattice) (w : Way) (c d : Crossing) → On l c → Some d ≡ beside l w c → Moved l c d
+beside_moved l Left c d o e =
+    let t = true_from _ (in_column c (c.column - 1)) d e in inl (c.column - 1, down c.column l.columns o.column t.0, t.1)
+beside_moved l Right c d o e =
+    let t = true_from _ (in_column c (c.column + 1)) d e in inl (c.column + 1, up c.column l.columns t.0, t.1)
+beside_moved l Down c d o e =
+    let t = true_from _ (in_row c (c.row - 1)) d e in inr (inl (c.row - 1, down c.row l.rows o.row t.0, t.1))
+beside_moved l Up c d o e =
+    let t = true_from _ (in_row c (c.row + 1)) d e in inr (inl (c.row + 1, up c.row l.rows t.0, t.1))
+beside_moved l Below c d o e =
+    let t = true_from _ (on_level c (c.level - 1)) d e in inr (inr (c.level - 1, down c.level l.layers o.level t.0, t.1))
+beside_moved l Above c d o e =
+    let t = true_from _ (on_level c (c.level + 1)) d e in inr (inr (c.level + 1, up c.level l.layers t.0, t.1))
+
 -- a neighbour is on the lattice too
 pub beside_on : (l : Lattice) (w : Way) (c d : Crossing) → On l c → Some d ≡ beside l w c → On l d
-beside_on l Left c d o e =
-    let t = true_from (nat_lt 0 c.column) (in_column c (c.column - 1)) d e in
-    subst (On l) (sym t.1) (record { column = omega (arith, o.column); row = o.row; level = o.level })
-beside_on l Right c d o e =
-    let t = true_from (nat_lt c.column (l.columns - 1)) (in_column c (c.column + 1)) d e in
-    subst (On l) (sym t.1)
-    (record { column = omega (arith, ltb-true c.column (l.columns - 1) t.0); row = o.row; level = o.level })
-beside_on l Down c d o e =
-    let t = true_from (nat_lt 0 c.row) (in_row c (c.row - 1)) d e in
-    subst (On l) (sym t.1) (record { column = o.column; row = omega (arith, o.row); level = o.level })
-beside_on l Up c d o e =
-    let t = true_from (nat_lt c.row (l.rows - 1)) (in_row c (c.row + 1)) d e in
-    subst (On l) (sym t.1)
-    (record { column = o.column; row = omega (arith, ltb-true c.row (l.rows - 1) t.0); level = o.level })
-beside_on l Below c d o e =
-    let t = true_from (nat_lt 0 c.level) (on_level c (c.level - 1)) d e in
-    subst (On l) (sym t.1) (record { column = o.column; row = o.row; level = omega (arith, o.level) })
-beside_on l Above c d o e =
-    let t = true_from (nat_lt c.level (l.layers - 1)) (on_level c (c.level + 1)) d e in
-    subst (On l) (sym t.1)
-    (record { column = o.column; row = o.row; level = omega (arith, ltb-true c.level (l.layers - 1) t.0) })
+beside_on l w c d o e = elim (beside_moved l w c d o e) [
+  | inl m ↦ subst (On l) (sym m.2) (record { column = m.1.inside; row = o.row; level = o.level })
+  | inr side ↦ elim side [
+    | inl m ↦ subst (On l) (sym m.2) (record { column = o.column; row = m.1.inside; level = o.level })
+    | inr m ↦ subst (On l) (sym m.2) (record { column = o.column; row = o.row; level = m.1.inside })
+  ]
+]
 
 -- the way to a neighbour by numbers
-
-pub next_known : (l : Lattice) (n k : ℕ) (w : Way) (d : Crossing) → n < node_total l → Some w ≡ way_of k
-    → Some d ≡ beside l w (crossing_at l n) → node_known l d ≡ next_of l n k
-next_known l n k w d h e b =
-    node_is l d (beside_on l w (crossing_at l n) d (crossing_on l n h) b) ∙ (ap (option_map (node_at l)) b ∙ ap (ahead l n) e)
 
 ahead_inside : (l : Lattice) (n v : ℕ) (o : Option Way) → n < node_total l → ahead l n o ≡ Some v
     → (w : Way) × (d : Crossing) × (o ≡ Some w) × (Some d ≡ beside l w (crossing_at l n)) × (v ≡ node_at l d)

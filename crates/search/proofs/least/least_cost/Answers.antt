@@ -1,7 +1,7 @@
 use Rattle.std.proofs.Common.{length, refl}
 use Rattle.costs.specs.Amounts.{tariff}
 use Rattle.geometry.specs.declared.axis.Axis.TheVariants.{X, Y}
-use Rattle.search.proofs.Costs.{part_long, part_lines, part_near, narrow, low, told_cost, not_early}
+use Rattle.search.proofs.Costs.{part_long, part_near, narrow, low}
 use Rattle.search.proofs.Leasts.{is_so, lines_on}
 use Rattle.search.proofs.least.least_cost.Goals as goal
 

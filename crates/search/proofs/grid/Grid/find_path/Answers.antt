@@ -17,7 +17,7 @@ returns-in-Least-clause-answer g c h of =
     let ps = g.P.Pieces.pieces grid.register.now in
     let a = g.K.Amount.Amount in (
       ap (λ n. nodes_short n (length c.args.nodes.now) (length c.args.frontier.now)) (sym (c.size-n.ensures ∙ total_request ps grid of))
-      ∙ sym c.if-nodes_short.ensures,
+          ∙ sym c.if-nodes_short.ensures,
       least_path ps grid (is_so _ h) of (g.K.CostKind.prices grid.kind) a.sums a.laws a.means c.in-Some.from c.in-Some-node.to
           c.in-Some.ensures c.in-Some-node.ensures (a.means c.in-Least.amount) c.in-Least.ensures.answer,
     )
@@ -36,7 +36,7 @@ returns-in-NoRoute-clause-answer g c h of =
     let ps = g.P.Pieces.pieces grid.register.now in
     let a = g.K.Amount.Amount in (
       ap (λ n. nodes_short n (length c.args.nodes.now) (length c.args.frontier.now)) (sym (c.size-n.ensures ∙ total_request ps grid of))
-      ∙ sym c.if-nodes_short.ensures,
+          ∙ sym c.if-nodes_short.ensures,
       no_path ps grid (is_so _ h) of (g.K.CostKind.prices grid.kind) a.sums a.laws a.means c.in-Some.from c.in-Some-node.to
           c.in-Some.ensures c.in-Some-node.ensures c.in-NoRoute.ensures.answer,
     )
