@@ -1,5 +1,5 @@
 -- How many numbers are in a list without repeats. Assumes nothing.
-use Rattle.std.proofs.Common.{◌≡◌, ℕ, zero, suc, ◌+◌, ◌*◌, ◌<◌, ◌≤◌, Bool, true, false, cond, not, ◌||◌, T, eqb, ltb, List, [], ◌∷◌, length, get_or, take, filter, Some, None, Option, sym, refl, ap, ◌∙◌, subst, inl, inr, arith, eqb→eq, length-take, eqb-true, lt-ltb, ne_eqb}
+use Rattle.std.proofs.Common.{◌≡◌, ℕ, zero, suc, ◌<◌, ◌≤◌, Bool, true, false, cond, not, ◌||◌, T, eqb, List, [], ◌∷◌, length, get_or, take, Some, None, Option, sym, refl, ap, ◌∙◌, subst, inl, inr, arith, eqb→eq, length-take, eqb-true, lt-ltb, ne_eqb}
 use lib.Dec.{eqb_refl}
 use Rattle.std.specs.Option.{IfSome, ok_or}
 use Rattle.std.specs.List.{ContainsAt as Has, AllByRecursion, IsDistinct, position, position_or_len}

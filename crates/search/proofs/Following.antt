@@ -1,7 +1,8 @@
 -- The routes of a grid as a graph are the lawful routes along its lines. Assumes nothing.
-use Rattle.std.proofs.Common.{◌≡◌, ℕ, ◌+◌, ◌<◌, ◌≤◌, Bool, true, false, T, List, [], ◌∷◌, map, get_or, Some, sym, refl, ap, ◌∙◌, subst, arith, le→leb}
+use Rattle.std.proofs.Common.{◌≡◌, ℕ, ◌+◌, ◌<◌, ◌≤◌, T, List, [], ◌∷◌, map, get_or, Some, sym, refl, ap, ◌∙◌, subst, arith, le→leb}
 use Rattle.std.specs.Option.{option_map}
 use Rattle.std.specs.List.{AllByRecursion}
+use Rattle.std.proofs.lemmas.Float.{T_from_true}
 use Rattle.costs.specs.Amounts.{Sums, Prices, Tariff, tariff}
 use Rattle.frontier.specs.Routes.{Search, search_from, Route, Move as Hop}
 use Rattle.geometry.specs.declared.piece.Piece.{Piece}
@@ -15,7 +16,7 @@ use Rattle.search.specs.declared.grid.Grid.{Grid}
 use Rattle.search.specs.declared.nodes.Way.{Way}
 use Rattle.search.specs.declared.nodes.Way.TheVariants.{Left, Right, Down, Up, Below, Above}
 use Rattle.search.specs.Grids.{grid_point, grid_rules, grid_shape, grid_price, join, joins_from}
-use Rattle.search.specs.Lattices.{crossing_on, crossing_back, node_back, node_inside, beside_on, next_says}
+use Rattle.search.specs.Lattices.{T_true, crossing_on, crossing_back, node_back, node_inside, beside_on, next_says}
 use Rattle.search.specs.Nodes.{node_total, node_at, crossing_at, way_of, ahead}
 use Rattle.search.proofs.Adjacent.{same_place}
 use Rattle.search.proofs.Points.{place}
@@ -46,14 +47,6 @@ number_way Down = refl
 number_way Up = refl
 number_way Below = refl
 number_way Above = refl
-
-holds : (b : Bool) → b ≡ true → T b
-holds true e = tt
-holds false e = absurd (let z : ◌≡◌ {A = ℕ} 0 1 = cc in omega arith)
-
-is_true : (b : Bool) → T b → b ≡ true
-is_true true h = refl
-is_true false h = absurd h
 
 -- a grid whose lines ascend and lie on the panel
 pub record Ruled {K P : Type 0} (g : Grid K P) : Type 0 where
@@ -132,7 +125,7 @@ module _ {K P C M : Type 0} (g : Grid K P) (ruled : Ruled g) (pieces : List Piec
         stays = stays;
         line = j.on_lines;
         allowed = both (inside R (after (pt u) (join (pt u) (pt w)))) (on_free_ground R (pt u) (join (pt u) (pt w)))
-            (subst (λ v. T (inside R v)) (sym j.arrives) (point_inside w stays)) (holds _ hop.free);
+            (subst (λ v. T (inside R v)) (sym j.arrives) (point_inside w stays)) (T_from_true _ hop.free);
         arrives = j.arrives;
         costs = hop.costs;
       }
@@ -197,7 +190,7 @@ module _ {K P C M : Type 0} (g : Grid K P) (ruled : Ruled g) (pieces : List Piec
           next = ap (ahead l u) (number_way s.way) ∙ ap (option_map (node_at l)) (sym s.found);
           free =
               ap (on_free_ground R (pt u)) joins
-              ∙ is_true _ (right (inside R (after (pt u) m)) (on_free_ground R (pt u) m) allowed);
+              ∙ T_true _ (right (inside R (after (pt u) m)) (on_free_ground R (pt u) m) allowed);
           costs = ap (price tf (pt u)) joins;
         };
       }

@@ -1,13 +1,13 @@
 -- The moves that join points, and what a run costs. Assumes nothing.
-use Rattle.std.proofs.Common.{◌≡◌, ℕ, ◌*◌, ◌^◌, ◌<◌, ◌≤◌, Bool, true, false, cond, eqb, sym, refl, ap, ◌∙◌, subst, mul-le-mul, arith, eq-eqb, ne_eqb}
+use Rattle.std.proofs.Common.{◌≡◌, ℕ, ◌*◌, ◌^◌, ◌<◌, ◌≤◌, cond, eqb, sym, ap, ◌∙◌, subst, mul-le-mul, arith, eq-eqb, ne_eqb}
 use Rattle.geometry.specs.declared.axis.Axis.{Axis}
 use Rattle.geometry.specs.declared.axis.Axis.TheVariants.{X, Y}
 use Rattle.geometry.specs.declared.point.Point.{Point}
 use Rattle.geometry.specs.Axes.{coordinate_of}
-use Rattle.costs.specs.Amounts.{Sums, Laws, Prices, step_price, tariff, times}
+use Rattle.costs.specs.Amounts.{Sums, Laws, times}
 use Rattle.costs.proofs.Times.{bulk_times}
-use Rattle.routes.specs.Routes.{along_x, along_y, to_layer, gap, price}
-use Rattle.search.specs.Grids.{join, run_axis, InReach}
+use Rattle.routes.specs.Routes.{along_x, along_y, to_layer}
+use Rattle.search.specs.Grids.{join, InReach}
 
 pub join_x : (p q : Point) → p.layer ≡ q.layer → p.y ≡ q.y → join p q ≡ along_x q.x
 join_x p q e f =

@@ -1,5 +1,5 @@
 -- The least cost along the lines of a request is the least cost of its paths. Assumes nothing.
-use Rattle.std.proofs.Common.{◌≡◌, ℕ, zero, suc, ◌*◌, ◌<◌, ◌≤◌, Bool, true, false, ◌&&◌, T, eqb, leb, List, [], ◌∷◌, map, reverse, length, get_or, sym, refl, ap, ◌∙◌, subst, inl, inr, arith, leb→le}
+use Rattle.std.proofs.Common.{◌≡◌, ℕ, zero, suc, ◌*◌, ◌<◌, ◌≤◌, Bool, false, ◌&&◌, T, eqb, leb, List, [], ◌∷◌, map, reverse, length, get_or, Some, None, Ok, Option, MatchOption, IfSome, sym, refl, ap, ◌∙◌, subst, inl, inr, arith, leb→le}
 use lib.Dec.{eqb_refl}
 use Rattle.std.proofs.lemmas.Bool.{cases_lt}
 use Rattle.costs.specs.Amounts.{Sums, Laws, Prices, Tariff, tariff}
@@ -31,15 +31,11 @@ use Rattle.search.specs.Axes.{extent_coordinates, extent_lines}
 use Rattle.search.specs.Located.{NodeOf, NoNode}
 use Rattle.search.specs.Grids.{grid_point, grid_rules, joins}
 use Rattle.search.specs.Nodes.{node_total}
-use Rattle.search.specs.Requests.{proper, sized, side, extent, request_rules, request_lines, request_nodes}
-use Rattle.search.specs.Told.{GridOf, LeastPath, Led}
+use Rattle.search.specs.Requests.{proper, sized, side, extent, request_rules, request_lines, request_nodes, nodes_short}
+use Rattle.search.specs.Told.{GridOf, LeastPath, Led, ToldPath, LedBack}
 use Rattle.search.proofs.Counting.{place_mem, mem_place}
 use Rattle.search.proofs.Leading.{Apart, apart_turned, no_cross, trail_apart, trail_turned, points_apart}
 use Rattle.search.proofs.Following.{Ruled, S, point_inside, same_node, Followed, follow, trace_back}
-
-pub is_so : (b : Bool) → b ≡ true → T b
-is_so true e = tt
-is_so false e = absurd (let z : ◌≡◌ {A = ℕ} 0 1 = cc in omega arith)
 
 -- lines lie where those of the request lie
 
@@ -92,6 +88,14 @@ ruled_grid ps g is_proper of = record {
   right = lines_below (request_lines g.request X ps) g.xs.now g.request.size.width of.across.same (lines_on g.request is_proper X ps);
   top = lines_below (request_lines g.request Y ps) g.ys.now g.request.size.height of.upright.same (lines_on g.request is_proper Y ps);
 }
+
+-- the nodes of a grid are those of the request
+pub total_request : {K P : Type 0} (ps : List Piece) (g : Grid K P) → GridOf ps g → node_total g.lattice ≡ request_nodes g.request ps
+total_request ps g of =
+    let x = request_lines g.request X ps in
+    let y = request_lines g.request Y ps in
+    ap (λ n. n * g.lattice.rows * g.lattice.layers) (g.columns ∙ of.across.number)
+    ∙ (ap (λ n. length x * n * g.lattice.layers) (g.rows ∙ of.upright.number) ∙ ap (λ n. length x * length y * n) of.layers_is)
 
 module _ {K P C M : Type 0} (ps : List Piece) (g : Grid K P) (is_proper : T (proper g.request)) (of : GridOf ps g)
     (prices : Prices C) (sums : Sums M) (laws : Laws sums) (means : C → M) (from to : ℕ)
@@ -163,7 +167,7 @@ module _ {K P C M : Type 0} (ps : List Piece) (g : Grid K P) (is_proper : T (pro
             enough_here a (λ r line. let n = as_route r line in l.lowest n.0 (cost tf s r) n.1);
       }
 
-  pub least_path : (a : M) → LeastCost graph to a → LeastPath tf (request_rules q ps) q.first q.second a
+  least_path : (a : M) → LeastCost graph to a → LeastPath tf (request_rules q ps) q.first q.second a
   least_path a l = subst (λ v. v) (λ i. LeastPath tf (rules_same i) (from_at.is i) (to_at.is i) a) (least_here a l)
 
   no_path_here : HasNoRoute graph to → HasNoPath R s t
@@ -171,7 +175,7 @@ module _ {K P C M : Type 0} (ps : List Piece) (g : Grid K P) (is_proper : T (pro
       no_line_route_no_path q.size.width q.size.height g.lattice.layers q.class q.net ps s t X' Y' enough_here
       (λ r line. let n = as_route r line in none n.0 (cost tf s r) n.1)
 
-  pub no_path : HasNoRoute graph to → HasNoPath (request_rules q ps) q.first q.second
+  no_path : HasNoRoute graph to → HasNoPath (request_rules q ps) q.first q.second
   no_path none = subst (λ v. v) (λ i. HasNoPath (rules_same i) (from_at.is i) (to_at.is i)) (no_path_here none)
 
   -- the notes lead back along a least-cost path
@@ -202,21 +206,20 @@ module _ {K P C M : Type 0} (ps : List Piece) (g : Grid K P) (is_proper : T (pro
         costs = subst (λ ms. cost tf q.first ms ≡ a) are (subst (λ p. cost tf p way.moves ≡ a) from_at.is way.costs);
       }
 
+  -- what a search answers is told of the request
+  pub told_path : (j k : ℕ) → nodes_short (node_total g.lattice) j k ≡ false → (r : Option C)
+      → MatchOption r (HasNoRoute graph to) (λ a. LeastCost graph to (means a)) → ToldPath tf means q ps j k (Ok r)
+  told_path j k long None none = (ap (λ n. nodes_short n j k) (sym (total_request ps g of)) ∙ long, no_path none)
+  told_path j k long (Some a) least = (ap (λ n. nodes_short n j k) (sym (total_request ps g of)) ∙ long, least_path (means a) least)
+
   -- from whatever number the first terminal's node has to that of the second's
-  pub led_back : (notes : List (Note C)) (a : M) → LeastCost graph to a → Traced graph means notes to a
-      → (u w : ℕ) → NodeOf g q.first u → NodeOf g q.second w → Led tf ps g notes a u w
-  led_back notes a least traced u w u_at w_at =
+  pub led_back : (notes : List (Note C)) (r : Option C) → MatchOption r (HasNoRoute graph to) (λ a. LeastCost graph to (means a))
+      → IfSome r (λ a. Traced graph means notes to (means a)) → LedBack tf means ps g notes (Ok r)
+  led_back notes None none traced = tt
+  led_back notes (Some a) least traced = λ u w u_at w_at.
       let from_is : from ≡ u = same_node g ruled from u from_at.inside u_at.inside (from_at.is ∙ sym u_at.is) in
       let to_is : to ≡ w = same_node g ruled to w to_at.inside w_at.inside (to_at.is ∙ sym w_at.is) in
-      subst (λ v. v) (λ i. Led tf ps g notes a (from_is i) (to_is i)) (led notes a least traced)
-
--- the nodes of a grid are those of the request
-pub total_request : {K P : Type 0} (ps : List Piece) (g : Grid K P) → GridOf ps g → node_total g.lattice ≡ request_nodes g.request ps
-total_request ps g of =
-    let x = request_lines g.request X ps in
-    let y = request_lines g.request Y ps in
-    ap (λ n. n * g.lattice.rows * g.lattice.layers) (g.columns ∙ of.across.number)
-    ∙ (ap (λ n. length x * n * g.lattice.layers) (g.rows ∙ of.upright.number) ∙ ap (λ n. length x * length y * n) of.layers_is)
+      subst (λ v. v) (λ i. Led tf ps g notes (means a) (from_is i) (to_is i)) (led notes (means a) least traced)
 
 -- both terminals are nodes
 module _ {K P : Type 0} (ps : List Piece) (g : Grid K P) (is_proper : T (proper g.request)) (of : GridOf ps g) where

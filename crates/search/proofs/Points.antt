@@ -1,5 +1,5 @@
 -- Where the nodes of a grid lie. Assumes nothing.
-use Rattle.std.proofs.Common.{inl, inr, ◌≡◌, ℕ, ◌+◌, ◌-◌, ◌<◌, Bool, true, false, cond, eqb, ltb, List, get_or, Some, None, sym, refl, ap, ◌∙◌, subst, arith, ltb-true, lt-ltb, eq-eqb, eqb-true}
+use Rattle.std.proofs.Common.{inl, inr, ◌≡◌, ℕ, ◌+◌, ◌<◌, Bool, true, false, cond, eqb, ltb, List, get_or, Some, None, sym, refl, ap, ◌∙◌, subst, arith, ltb-true, lt-ltb, eq-eqb, eqb-true}
 use borrow.Author.Tests.{eqb-false}
 use Rattle.geometry.specs.declared.point.Point.{Point}
 use Rattle.routes.specs.Routes.{gap, Rules, on_free_ground}
@@ -9,7 +9,7 @@ use Rattle.search.specs.declared.nodes.Crossing.{Crossing}
 use Rattle.search.specs.declared.nodes.Way.{Way}
 use Rattle.search.specs.Grids.{grid_points, grid_point, InReach, Adjoin, join}
 use Rattle.search.specs.Lattices.{On, beside_moved, crossing_on, crossing_back, beside_on, next_says, true_from}
-use Rattle.search.specs.Nodes.{node_total, crossing_at, beside, next_of, in_column, in_row, on_level}
+use Rattle.search.specs.Nodes.{node_total, crossing_at, beside, next_of}
 
 -- the point of a crossing
 abbrev pub place : List ℕ → List ℕ → Crossing → Point

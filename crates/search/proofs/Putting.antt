@@ -11,7 +11,7 @@ use Rattle.geometry.specs.Nets.{different_nets}
 use Rattle.geometry.specs.Zones.{widened}
 use Rattle.queue.specs.declared.heap.Full.{Full}
 use Rattle.queue.specs.declared.heap.Queue.{Queue}
-use Rattle.queue.specs.Waiting.{waiting, room, Keeps, PutIn, SameSlots}
+use Rattle.queue.specs.Waiting.{waiting, Keeps, PutIn, SameSlots}
 use Rattle.routes.specs.Lines.{on_panel, borders, others}
 use Rattle.geometry.specs.declared.axis.Axis.{Axis}
 use Rattle.geometry.specs.declared.axis.Axis.TheVariants.{X, Y}

@@ -1,5 +1,5 @@
 -- A step from a crossing to a neighbour is a move along the lines, and each such move is a step. Assumes nothing.
-use Rattle.std.proofs.Common.{◌≡◌, ℕ, ◌+◌, ◌-◌, ◌<◌, ◌≤◌, Bool, true, cond, not, ◌&&◌, T, eqb, ltb, leb, List, length, get_or, Some, None, sym, refl, ap, ◌∙◌, subst, inl, inr, arith, eqb→eq, leb→le, ltb-true, lt-ltb}
+use Rattle.std.proofs.Common.{◌≡◌, ℕ, ◌+◌, ◌-◌, ◌≤◌, Bool, true, cond, not, ◌&&◌, T, eqb, ltb, leb, List, length, get_or, Some, None, sym, refl, ap, ◌∙◌, subst, inl, inr, arith, eqb→eq, leb→le, lt-ltb}
 use lib.Dec.{eqb_refl}
 use Rattle.std.proofs.lemmas.Bool.{cases_order}
 use Rattle.geometry.specs.declared.point.Point.{Point}

@@ -4,11 +4,8 @@ use Rattle.geometry.specs.declared.piece.Piece.{Piece}
 use Rattle.geometry.specs.declared.question.Question.{Question}
 use Rattle.geometry.specs.Zones.{in_way, none_in_way, in_way_by}
 use Rattle.registers.specs.Standing.{ToldInWay}
+use Rattle.search.specs.Lattices.{T_true}
 use Rattle.routes.proofs.Bools.{left, either}
-
-is_true : (b : Bool) → T b → true ≡ b
-is_true true h = refl
-is_true false h = absurd h
 
 some_in_way : (q : Question) (ps : List Piece) (job : ℕ) → T (in_way_by q ps job) → false ≡ none_in_way q ps
 some_in_way q [] job h = absurd h
@@ -30,7 +27,7 @@ not_not true = refl
 not_not false = refl
 
 told : (q : Question) (ps : List Piece) (o : Option ℕ) → ToldInWay q ps o → not (is_some o) ≡ none_in_way q ps
-told q ps None h = is_true (none_in_way q ps) h
+told q ps None h = sym (T_true (none_in_way q ps) h)
 told q ps (Some job) h = some_in_way q ps job h
 
 pub told_free : (q : Question) (ps : List Piece) (o : Option ℕ) (r : Bool) → ToldInWay q ps o → is_some o ≡ not r

@@ -1,6 +1,6 @@
 -- Nodes and crossings are the same, counted in two ways. Assumes nothing.
-use Rattle.std.specs.Prelude.{◌≡◌, ℕ, zero, suc, ◌+◌, ◌-◌, ◌*◌, ◌/◌, ◌%◌, ◌<◌, ◌≤◌, Bool, true, false, cond, ◌&&◌, T, ltb, ◌⊎◌, Some, None, Option, nat_lt, refl}
-use Rattle.std.proofs.Common.{inl, inr, sym, ap, subst, ◌∙◌, mul_comm, mul_assoc, mul-le-mul, mod-lt, div-add-mod', div-lt_iff_lt-mul, arith, ltb→lt, lt→ltb, ltb-true, lt-ltb}
+use Rattle.std.specs.Prelude.{◌≡◌, ℕ, zero, suc, ◌+◌, ◌-◌, ◌*◌, ◌/◌, ◌%◌, ◌<◌, ◌≤◌, Bool, true, false, cond, T, ◌⊎◌, Some, None, Option, nat_lt, refl}
+use Rattle.std.proofs.Common.{inl, inr, sym, ap, subst, ◌∙◌, mul_comm, mul_assoc, mul-le-mul, mod-lt, div-add-mod', div-lt_iff_lt-mul, arith, lt→ltb, ltb-true, lt-ltb}
 use Rattle.std.proofs.Math.Arith.{digits_lt, digits_div, digits_mod}
 use Rattle.std.specs.Option.{option_map}
 use Rattle.search.specs.declared.lattice.Lattice.{Lattice}
@@ -9,7 +9,7 @@ use Rattle.search.specs.declared.nodes.Way.{Way}
 use Rattle.search.specs.declared.nodes.Way.TheVariants.{Left, Right, Down, Up, Below, Above}
 use Rattle.search.specs.Nodes.{on_lattice, node_total, node_at, crossing_at, node_known, crossing_known}
 use Rattle.search.specs.Nodes.{way_of, in_column, in_row, on_level, beside, ahead, next_of}
-use Rattle.routes.proofs.Bools.{left, right, both}
+use Rattle.routes.proofs.Bools.{both}
 
 -- a crossing is on the lattice
 pub record On (l : Lattice) (c : Crossing) : Type 0 where

@@ -18,8 +18,8 @@ impl<'a, K: CostKind, P: Pieces> Graph<K::Amount> for Grid<'a, K, P> {
         self.lattice.size()
     }
 
-    fn toward(&self, node: u32, way: u32) -> Option<(u32, K::Amount)> {
-        let next = self.lattice.next(node, way)?;
+    fn toward(&self, node: u32, k: u32) -> Option<(u32, K::Amount)> {
+        let next = self.lattice.next(node, k)?;
         let p = self.point(node)?;
         let q = self.point(next)?;
         Some((next, self.price(&p, &q)))

@@ -8,7 +8,7 @@ use crate::drawing::draw_lattice;
 use crate::grid::Grid;
 use crate::request::{Refusal, Request};
 use costs::CostKind;
-use frontier::{Entry, Found, Graph, Note, find_least};
+use frontier::{Entry, Graph, Note, find_least};
 use registers::Pieces;
 
 /// Whether the list of notes or the frontier's is too short for so many nodes.
@@ -40,11 +40,7 @@ impl<'a, K: CostKind, P: Pieces> Grid<'a, K, P> {
         let Some(to) = self.node(&self.request.second) else {
             return Ok(None);
         };
-        match find_least(self, from, to, nodes, frontier) {
-            Found::Least(amount) => Ok(Some(amount)),
-            Found::NoRoute => Ok(None),
-            Found::Refused => Err(Refusal::ShortNodes(n)),
-        }
+        Ok(find_least(self, from, to, nodes, frontier).unwrap())
     }
 }
 

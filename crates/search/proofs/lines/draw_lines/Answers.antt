@@ -1,9 +1,7 @@
-use Rattle.std.proofs.Common.{◌+◌, ◌*◌, ◌≤◌, [], length, sym, subst, arith}
-use Rattle.std.specs.Option.{ok_or}
+use Rattle.std.proofs.Common.{[], sym, subst, arith}
 use Rattle.std.specs.List.Sorted.{IsPermutation}
 use Rattle.std.proofs.lemmas.List.Sorted.{IsPermutation-refl}
 use Rattle.queue.specs.Waiting.{waiting}
-use Rattle.search.specs.declared.lines.Undrawn.TheVariants.{TooManyLines}
 use Rattle.search.specs.Axes.{extent_coordinates, extent_lines}
 use Rattle.search.specs.Drawing.{ToldDrawn}
 use Rattle.search.proofs.Counting.{told_drawn}

@@ -1,6 +1,6 @@
-use Rattle.std.proofs.Common.{[], ◌∷◌, arith}
-use Rattle.search.specs.Drawing.{HasRoom, all_borders}
-use Rattle.search.proofs.Putting.{puts_one, puts_more, room_left}
+use Rattle.std.proofs.Common.{[], ◌∷◌}
+use Rattle.search.specs.Drawing.{all_borders}
+use Rattle.search.proofs.Putting.{puts_one, puts_more}
 use Rattle.search.proofs.lines.put_coordinates.Goals as goal
 
 pub returns : goal.returns

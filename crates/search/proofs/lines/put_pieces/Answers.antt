@@ -1,5 +1,4 @@
-use Rattle.std.proofs.Common.{◌≡◌, Some, true, false, [], sym, ◌∙◌, subst}
-use Rattle.std.specs.Option.{MatchOption}
+use Rattle.std.proofs.Common.{true, false, [], sym, ◌∙◌, subst}
 use Rattle.registers.specs.Standing.{StandsAt}
 use Rattle.search.specs.Drawing.{Puts, piece_borders}
 use Rattle.search.proofs.Putting.{puts_none, turn}

@@ -7,7 +7,7 @@ use Rattle.search.proofs.graph.GridGraphAmount.toward.Goals as goal
 pub returns-in_err-q : goal.returns-in_err-q
 returns-in_err-q g c h six =
     let grid = c.args.self.now in
-    let inside = next_inside grid.lattice c.args.node c.args.way c.in_ok-next.next h (sym (c.in_ok-next.ensures h)) in
+    let inside = next_inside grid.lattice c.args.node c.args.k c.in_ok-next.next h (sym (c.in_ok-next.ensures h)) in
     absurd (present_point grid c.in_ok-next.next c.in_err-q.ensures inside)
 
 pub price-requires : goal.price-requires
