@@ -1,2 +1,3 @@
 pub mod Grounds
+pub mod Orders
 pub mod Places

@@ -1,9 +1,10 @@
 // The flood: labels are bettered in sweeps over all points until nothing improves.
-ghost use Rattle.std.specs.Prelude.{◌≡◌, ◌<◌, false, [], Ok, None, All, length};
-ghost use Rattle.std.specs.Iterator.{IsFinite, HoldsAlong};
+ghost use Rattle.std.specs.Prelude.{◌≡◌, false, [], Ok, None, length};
+ghost use Rattle.std.specs.Iterator.{IsFinite};
 ghost use Rattle.routes.specs.Routes.{inside};
 ghost use Rattle.flood.specs.declared.spread.FloodError.TheVariants.{OutOfMemory};
 ghost use Rattle.flood.specs.Grounds.{ground_rules};
+ghost use Rattle.flood.specs.Orders.{GivesBelow};
 
 use crate::ground::Ground;
 use crate::labels::Spread;
@@ -32,7 +33,7 @@ impl<K: CostKind> Spread<K> {
     fn sweep<I: Iterator<Item = usize>>(&self, nodes: &mut [Node<K::Amount>], order: I) -> bool
         requires can { I.can_next order }
         requires ends { IsFinite (I.remaining order) }
-        requires inside { HoldsAlong I.next_gives order (All (λ i. i < length nodes.old)) }
+        requires inside { GivesBelow I.next_gives order (length nodes.old) }
     {
         let mut improved = false;
         for i in order {
