@@ -2,8 +2,8 @@
 ghost use Rattle.std.specs.Prelude.{◌≡◌, ◌+◌, ◌^◌, ◌<◌};
 ghost use Rattle.costs.specs.Amounts.{Sums, Laws};
 
-/// An amount of cost, which stands for a meaning without a ceiling. Its order is `at_most` and no bound `Ord`, which would ask
-/// for a whole order and an equality of each kind.
+/// An amount of cost, which stands for a meaning without a ceiling. Its zero and its order are methods of its own: bounds `Default`
+/// and `Ord` would ask more of each kind.
 pub trait Amount: Copy {
     ghost Meaning: { Type 0 };
 

@@ -37,7 +37,7 @@ pub enum RowRefusal {
     Price,
 }
 
-/// Writes the three prices of one row.
+/// Writes the three prices of one row, which the list lends.
 fn set_row(row: &mut Row, u: u16, v: u16, t: u32)
     ensures { row.new ≡ record { u = u; v = v; t = t } }
 {

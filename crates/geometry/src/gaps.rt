@@ -1,4 +1,4 @@
-// Whether rectangles lie apart.
+// Whether rectangles lie apart: functions of both, since neither is the subject.
 ghost use Rattle.std.specs.Prelude.{◌≡◌, pos, ◌+ℤ◌, int_le};
 ghost use Rattle.geometry.specs.Clearance.{apart_along, apart as lie_apart};
 
