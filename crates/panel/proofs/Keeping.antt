@@ -1,5 +1,6 @@
 -- What every run keeps: the standing pieces in order, and so their clearance. Assumes nothing.
-use Rattle.std.proofs.Common.{ℕ, ◌+◌, Bool, true, false, not, T, List, [], ◌∷◌, ◌++◌, Ok, Err, refl, arith}
+use Rattle.std.proofs.Common.{ℕ, ◌+◌, T, List, [], ◌∷◌, ◌++◌, Ok, Err, refl, arith}
+use Rattle.std.proofs.Math.Facts.{T_not-not, not_T}
 use Rattle.geometry.specs.Clearance.{in_order}
 use Rattle.panel.specs.declared.sheet.Sheet.{Sheet}
 use Rattle.panel.specs.Standing.{Standing, nothing_stands}
@@ -7,15 +8,11 @@ use Rattle.panel.specs.Runs.{Event, placing, lifting, next, told_from, Answered,
 use Rattle.panel.proofs.Lifting.{without_in_order}
 use Rattle.panel.proofs.Placing.{with_in_order}
 
-stable : (b : Bool) → (T (not b) → ⊥) → T b
-stable true h = tt
-stable false h = absurd (h tt)
-
 -- an event that is answered rightly keeps the pieces in order
 next_in_order :
     (s : Sheet) (places : ℕ) (st : Standing) (e : Event) → Answered s places st e → T (in_order st.pieces) → T (in_order (next st e).pieces)
 next_in_order s places st (placing a (Ok job)) right h =
-    with_in_order s a (st.jobs + 1) st.pieces _ refl (stable _ right.0.1.1.0) (stable _ right.0.1.1.1.0) h
+    with_in_order s a (st.jobs + 1) st.pieces _ refl (T_not-not _ (not_T _ right.0.1.1.0)) (T_not-not _ (not_T _ right.0.1.1.1.0)) h
 next_in_order s places st (placing a (Err e)) right h = h
 next_in_order s places st (lifting job (Ok count)) right h = without_in_order job st.pieces _ refl h
 next_in_order s places st (lifting job (Err e)) right h = h

@@ -69,6 +69,7 @@ impl Shown {
     }
 }
 
+// `shown` is a method and no `From`: a refusal is shown where it is borrowed, and the contract says what is shown.
 impl Refusal {
     /// What is shown of the refusal of a call.
     pub fn shown(&self) -> Shown
