@@ -1,7 +1,7 @@
 // Place and lift at the ends of 32 bits, without places, and until the job numbers are used up.
 use costs::{ByMoney, ByVias, PriceList};
 use geometry::{Mark, Piece, Rect, Size, Span};
-use panel::{Placement, Refusal, Sheet, SheetRefusal};
+use panel::{Call, Done, Placement, Refusal, Sheet, SheetRefusal, run_calls};
 use registers::{PlainRegister, Register};
 use std::process::Abort;
 use std::test::Fail;
@@ -119,6 +119,34 @@ fn wide_arguments(rt: HostRuntime) -> Result<(), Fail> {
     assert_eq!(rt; panel.place(&GOOD), Ok(2));
     assert_eq!(rt; panel.lift(1), Ok(1));
     assert_eq!(rt; panel.lift(1), Err(Refusal::NoSuchJob));
+    Ok(())
+}
+
+#[test]
+fn calls_in_a_row(rt: HostRuntime) -> Result<(), Fail> {
+    let prices = PriceList::new();
+    let mut slots = [LAID; 1];
+    let register = PlainRegister::new(&mut slots);
+    let calls = [
+        Call::Place(GOOD),
+        Call::Place(GOOD),
+        Call::Lift(1),
+        Call::Lift(1),
+    ];
+    let answers = run_calls(
+        rt.alloc(),
+        sheet(&rt)?,
+        ByMoney { prices },
+        register,
+        &calls,
+    )?;
+    let expected = [
+        Ok(Done::Placed(1)),
+        Err(Refusal::TooFewPlaces(1)),
+        Ok(Done::Lifted(1)),
+        Err(Refusal::NoSuchJob),
+    ];
+    assert_eq!(rt; answers.as_slice(), expected.as_slice());
     Ok(())
 }
 
