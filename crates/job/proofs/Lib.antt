@@ -1,7 +1,6 @@
 pub mod Cuts
 pub mod Digits
-pub mod Lefts
+pub mod Firsts
 pub mod Numbered
 pub mod Scans
 pub mod Tellings
-pub mod Texts

@@ -1,17 +1,27 @@
--- Looking for a byte, place by place.
-use Rattle.std.proofs.Common.{◌≡◌, ℕ, ◌+◌, ◌<◌, ◌≤◌, List, length, get_or, drop, eq-eqb, ne_eqb}
-use Rattle.std.proofs.lemmas.List.{drop_more, drop_all}
+-- How many bytes stand before the first that is looked for.
+use Rattle.std.proofs.Common.{◌≡◌, ℕ, ◌+◌, ◌≤◌, cond, eqb, ltb, List, [], ◌∷◌, length, refl, ap, ◌∙◌, Bool, true, false, inl, inr, add-one, arith}
+use Rattle.std.specs.Option.{unwrap_or}
+use Rattle.std.specs.List.{position, position_or_len}
+use Rattle.std.proofs.lemmas.Bool.{cases_lt, cond-true, cond-false, lt-ltb, le-ltb}
+use Rattle.std.proofs.lemmas.List.Recursion.{is_position_or_len}
 use Rattle.job.specs.Text.{before}
 
--- the byte at i is the one that is looked for
-pub before_here : (b : ℕ) (bs : List ℕ) (i : ℕ) → i < length bs → get_or bs i 0 ≡ b → before b (drop i bs) ≡ 0
-before_here b bs i h e = rw (drop_more bs i 0 h, eq-eqb (get_or bs i 0) b e)
+before_is : (b : ℕ) (bs : List ℕ) → before b bs ≡ position_or_len (λ x. eqb x b) bs
+before_is b = is_position_or_len (before b) (λ x. eqb x b) refl (λ x xs. ap (cond (eqb x b) 0) (omega arith))
 
--- it is not
-pub before_past :
-    (b : ℕ) (bs : List ℕ) (i : ℕ) → i < length bs → (get_or bs i 0 ≡ b → ⊥) → before b (drop i bs) ≡ before b (drop (i + 1) bs) + 1
-before_past b bs i h e = rw (drop_more bs i 0 h, ne_eqb (get_or bs i 0) b e)
+before_step : (n k : ℕ) (here : Bool) → n ≤ k → cond here 0 (n + 1) ≤ k + 1
+before_step n k true h = omega arith
+before_step n k false h = omega arith
 
--- there is none at or behind i
-pub before_end : (b : ℕ) (bs : List ℕ) (i : ℕ) → length bs ≤ i → before b (drop i bs) ≡ 0
-before_end b bs i h = rw (drop_all i bs h)
+before_within : (b : ℕ) (bs : List ℕ) → before b bs ≤ length bs
+before_within b [] = omega arith
+before_within b (x ∷ xs) = rw (← add-one (length xs)) (before_step (before b xs) (length xs) (eqb x b) (before_within b xs))
+
+-- the place of the first, or all of them where there is none
+pub before_found : (b : ℕ) (bs : List ℕ) → unwrap_or (position (λ x. eqb x b) bs) (length bs) ≡ before b bs
+before_found b bs = rw (← before_is b bs) (elim (cases_lt (before b bs) (length bs)) [
+  | inl h ↦ ap (λ o. unwrap_or o (length bs)) (cond-true (ltb (before b bs) (length bs)) _ _ (lt-ltb (before b bs) (length bs) h))
+  | inr h ↦
+      let within : before b bs ≤ length bs = before_within b bs in
+      ap (λ o. unwrap_or o (length bs)) (cond-false (ltb (before b bs) (length bs)) _ _ (le-ltb (before b bs) (length bs) h)) ∙ omega arith
+])

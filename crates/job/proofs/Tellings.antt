@@ -1,5 +1,5 @@
 -- What a job comes to, line by line.
-use Rattle.std.proofs.Common.{◌≡◌, ℕ, ◌+◌, List, [], ◌∷◌, ◌++◌, IfOk, Ok, Err, Option, Result, sym, refl, ap, ◌∙◌, subst, append_assoc, MatchResult}
+use Rattle.std.proofs.Common.{◌≡◌, ℕ, ◌+◌, List, ◌∷◌, ◌++◌, IfOk, Ok, Err, Option, Result, sym, ap, ◌∙◌, subst, append_assoc, MatchResult}
 use Rattle.panel.specs.declared.calls.Call.{Call}
 use Rattle.job.specs.declared.refused.Refused.{Refused}
 use Rattle.job.specs.declared.said.Said.{Said}
@@ -7,7 +7,7 @@ use Rattle.job.specs.declared.setup.Setup.{Setup}
 use Rattle.job.specs.Text.{words}
 use Rattle.job.specs.Stages.{answer_of, led_on_by, led_on_if, stage_after}
 use Rattle.job.specs.Settings.{SetBy}
-use Rattle.job.specs.Said.{replied, said, call_in, calls_in, LineTold, Told}
+use Rattle.job.specs.Said.{replied, said, LineTold, Told}
 
 -- what the contract of a line says, as one fact
 pub line_told :
@@ -20,11 +20,6 @@ line_told s t l (Ok o) e set led =
 line_told s t l (Err x) e set led =
     let P : Result (Option Call) Refused → Type 0 = λ r. MatchResult r (λ _. SetBy l s t) (λ _. t ≡ s) in
     record { stage_is = ap (λ u. u.stage) set ∙ ap (led_on_if s.stage (words 0 l)) e; set_is = subst P e set }
-
-pub calls_in-++ : (xs ys : List Said) → calls_in (xs ++ ys) ≡ calls_in xs ++ calls_in ys
-calls_in-++ [] ys = refl
-calls_in-++ (x ∷ xs) ys =
-    ap (λ cs. call_in x.reply ++ cs) (calls_in-++ xs ys) ∙ sym (append_assoc (call_in x.reply) (calls_in xs) (calls_in ys))
 
 -- one line more has been answered
 pub said_more :

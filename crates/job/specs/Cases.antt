@@ -1,9 +1,10 @@
 -- Short jobs and what they are answered with, as rows. Assumes nothing.
-use Rattle.std.specs.Prelude.{◌≡◌, ℕ, Bool, true, List, [], ◌∷◌, ◌++◌, codes}
+use Rattle.std.specs.Prelude.{◌≡◌, ℕ, Bool, true, List, [], ◌∷◌, ◌++◌, Ok, Err, Result, codes}
 use Rattle.std.specs.Str.{bytes_eq}
 use Rattle.geometry.specs.Lists.{all_of}
-use Rattle.panel.specs.declared.calls.Answer.{Answer}
-use Rattle.panel.specs.declared.calls.Answer.TheVariants.{Placed, Lifted, Refused}
+use Rattle.panel.specs.declared.calls.Done.{Done}
+use Rattle.panel.specs.declared.calls.Done.TheVariants.{Placed, Lifted}
+use Rattle.panel.specs.declared.refusal.Refusal.{Refusal}
 use Rattle.panel.specs.declared.refusal.Refusal.TheVariants.{OffPanel, NoSuchJob}
 use Rattle.job.specs.declared.setup.Stage.TheVariants.{Start}
 use Rattle.job.specs.Text.{lines}
@@ -13,10 +14,10 @@ use Rattle.job.specs.Written.{text_of}
 -- A row: a job, the answers of its calls, and the text that it is answered with.
 pub record Row : Type 0 where
   pub job : List ℕ
-  pub answers : List Answer
+  pub answers : List (Result Done Refusal)
   pub text : List ℕ
 
-abbrev row : List ℕ → List Answer → List ℕ → Row
+abbrev row : List ℕ → List (Result Done Refusal) → List ℕ → Row
 row job answers text = record { job = job; answers = answers; text = text }
 
 -- a job that opens a panel, and goes on so
@@ -45,9 +46,9 @@ rows =
     ∷ row (codes "panel 0 9 1 m p 1\n") [] (codes "no 16 1 job 16\n")
     ∷ row (codes "panel 9 9 1 v s\nlayer 9 0 0 0\nclass 1 0 0 0\n") [] (codes "no 2 2 sheet 0\nno 3 3 sheet 0\n")
     -- calls and their answers, with a line that cannot be read among them
-    ∷ row (opened (codes "place 1 1 1 5 5 0 0\nplaces\nlift 1\nlift 1")) (Placed 1 ∷ Lifted 1 ∷ Refused NoSuchJob ∷ [])
+    ∷ row (opened (codes "place 1 1 1 5 5 0 0\nplaces\nlift 1\nlift 1")) (Ok (Placed 1) ∷ Ok (Lifted 1) ∷ Err NoSuchJob ∷ [])
     (codes "ok 1\nno 16 4 job 0\nok 1\nno 9 6 panel 0\n")
-    ∷ row (opened (codes "place 1 1 1 10 5 0 0\nopen\n")) (Refused OffPanel ∷ []) (codes "no 5 3 panel 0\nno 16 4 job 0\n")
+    ∷ row (opened (codes "place 1 1 1 10 5 0 0\nopen\n")) (Err OffPanel ∷ []) (codes "no 5 3 panel 0\nno 16 4 job 0\n")
     ∷ []
 
 abbrev pub holds : Row → Bool

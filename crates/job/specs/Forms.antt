@@ -2,7 +2,7 @@
 --     verb bytes               the kind of a line, by its first word
 --     read_all k end words     k numbers and no word behind them
 --     ..-line end words        what the words behind the first one say, or the place of what does not fit
-use Rattle.std.specs.Prelude.{ℕ, Bool, true, false, cond, List, drop, Some, None, Ok, Err, codes, Option, Result, slice_index}
+use Rattle.std.specs.Prelude.{ℕ, cond, List, drop, Some, None, Ok, Err, codes, Option, Result, slice_index}
 use Rattle.std.specs.Str.{bytes_eq}
 use Rattle.panel.specs.declared.calls.Placement.{Placement}
 use Rattle.job.specs.declared.reader.Unreadable.{Unreadable}
@@ -16,15 +16,21 @@ use Rattle.job.specs.declared.forms.PanelLine.{PanelLine}
 use Rattle.job.specs.declared.forms.LayerLine.{LayerLine}
 use Rattle.job.specs.declared.forms.ClassLine.{ClassLine}
 use Rattle.job.specs.Text.{WordAt}
-use Rattle.job.specs.Reading.{read_by, read_numbers, read_end, letter}
+use Rattle.job.specs.Reading.{read_by, read_numbers, read_end}
 
-abbrev pub named : List ℕ → List ℕ → Verb → Option Verb → Option Verb
-named bs word v others = cond (bytes_eq bs word) (Some v) others
+abbrev pub named : {X : Type 0} → List ℕ → List ℕ → X → Option X → Option X
+named bs word x others = cond (bytes_eq bs word) (Some x) others
 
 abbrev pub verb : List ℕ → Option Verb
 verb bs =
     named bs (codes "panel") Panel (named bs (codes "layer") Layer (named bs (codes "class") Class (named bs (codes "open") Open
     (named bs (codes "place") Place (named bs (codes "lift") Lift (named bs (codes "quote") Quote (named bs (codes "connect") Connect None)))))))
+
+abbrev pub cost_choice : List ℕ → Option CostChoice
+cost_choice bs = named bs (codes "m") Money (named bs (codes "v") Vias None)
+
+abbrev pub register_choice : List ℕ → Option RegisterChoice
+register_choice bs = named bs (codes "p") Plain (named bs (codes "s") Strips None)
 
 -- what is read further on, where what stands before it fits
 abbrev pub then_read : {X Y : Type 0} → Result X Unreadable → (X → Result Y Unreadable) → Result Y Unreadable
@@ -39,21 +45,13 @@ at_end (Some e) x = Err e
 abbrev pub read_all : ℕ → ℕ → List WordAt → Result (List ℕ) Unreadable
 read_all k end ws = then_read (read_numbers k end ws) (λ ns. at_end (read_end (drop k ws)) ns)
 
-abbrev pub cost_of : Bool → CostChoice
-cost_of true = Money
-cost_of false = Vias
-
-abbrev pub register_of : Bool → RegisterChoice
-register_of true = Plain
-register_of false = Strips
-
 abbrev pub panel_line : ℕ → List WordAt → Result PanelLine Unreadable
 panel_line end ws =
     then_read (read_numbers 3 end ws) (λ ns.
-    then_read (read_by (letter 109 118) end (drop 3 ws)) (λ m.
-    then_read (read_by (letter 112 115) end (drop 4 ws)) (λ p.
+    then_read (read_by cost_choice end (drop 3 ws)) (λ c.
+    then_read (read_by register_choice end (drop 4 ws)) (λ r.
     at_end (read_end (drop 5 ws))
-    (record { width = slice_index ns 0; height = slice_index ns 1; layers = slice_index ns 2; cost = cost_of m; register = register_of p }))))
+    (record { size = record { width = slice_index ns 0; height = slice_index ns 1; layers = slice_index ns 2 }; cost = c; register = r }))))
 
 abbrev pub layer_line : ℕ → List WordAt → Result LayerLine Unreadable
 layer_line end ws =
@@ -61,7 +59,7 @@ layer_line end ws =
 
 abbrev pub class_line : ℕ → List WordAt → Result ClassLine Unreadable
 class_line end ws =
-    then_read (read_all 4 end ws) (λ ns. Ok (record { number = slice_index ns 0; half = slice_index ns 1; space = slice_index ns 2; pad = slice_index ns 3 }))
+    then_read (read_all 4 end ws) (λ ns. Ok (record { number = slice_index ns 0; measures = record { half = slice_index ns 1; space = slice_index ns 2; pad = slice_index ns 3 } }))
 
 abbrev pub place_line : ℕ → List WordAt → Result Placement Unreadable
 place_line end ws =

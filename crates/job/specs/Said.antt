@@ -3,10 +3,10 @@
 --     calls_in saids         the calls among that
 --     Told s lines t         the lines, from the settings s on, lead to the settings t
 use Rattle.std.specs.Prelude.{◌≡◌, ℕ, ◌+◌, List, [], ◌∷◌, ◌++◌, Some, None, Ok, Err, Option, Result, MatchResult}
+use Rattle.std.specs.List.{filter_map}
+use Rattle.std.specs.Result.{result_ok}
 use Rattle.panel.specs.declared.calls.Call.{Call}
 use Rattle.job.specs.declared.refused.Refused.{Refused}
-use Rattle.job.specs.declared.said.Reply.{Reply}
-use Rattle.job.specs.declared.said.Reply.TheVariants as reply
 use Rattle.job.specs.declared.said.Said.{Said}
 use Rattle.job.specs.declared.setup.Stage.{Stage}
 use Rattle.job.specs.declared.setup.Setup.{Setup}
@@ -16,20 +16,15 @@ use Rattle.job.specs.Settings.{SetBy}
 -- An accepted setting is not answered.
 abbrev pub replied : ℕ → Result (Option Call) Refused → List Said
 replied n (Ok None) = []
-replied n (Ok (Some call)) = record { line = n; reply = reply.Call call } ∷ []
-replied n (Err e) = record { line = n; reply = reply.Refused e } ∷ []
+replied n (Ok (Some call)) = record { line = n; reply = Ok call } ∷ []
+replied n (Err e) = record { line = n; reply = Err e } ∷ []
 
 abbrev pub said : Stage → ℕ → List (List ℕ) → List Said
 said s n [] = []
 said s n (l ∷ ls) = replied n (answer_of s l) ++ said (stage_after s l) (n + 1) ls
 
-abbrev pub call_in : Reply → List Call
-call_in (reply.Call call) = call ∷ []
-call_in (reply.Refused e) = []
-
 abbrev pub calls_in : List Said → List Call
-calls_in [] = []
-calls_in (a ∷ rest) = call_in a.reply ++ calls_in rest
+calls_in = filter_map (λ s. result_ok s.reply)
 
 -- what one line does to the settings
 pub record LineTold (s : Setup) (l : List ℕ) (t : Setup) : Type 0 where

@@ -1,5 +1,5 @@
 -- What a job says as a whole. Assumes nothing.
-use Rattle.std.specs.Prelude.{◌≡◌, ℕ, List, vec_items}
+use Rattle.std.specs.Prelude.{◌≡◌, ℕ, List}
 use Rattle.costs.specs.Rows.{blank_list}
 use Rattle.panel.specs.Sheets.{Blank}
 use Rattle.job.specs.declared.forms.CostChoice.TheVariants.{Money}
@@ -8,7 +8,7 @@ use Rattle.job.specs.declared.setup.Setup.{Setup}
 use Rattle.job.specs.declared.setup.Stage.TheVariants.{Start}
 use Rattle.job.specs.declared.script.Script.{Script}
 use Rattle.job.specs.Text.{lines}
-use Rattle.job.specs.Said.{said, calls_in, Told}
+use Rattle.job.specs.Said.{said, Told}
 
 -- before the first line
 pub record Unset (s : Setup) : Type 0 where
@@ -22,5 +22,4 @@ pub record Read (job : List ℕ) (s : Script) : Type 0 where
   pub unset : Setup
   pub unset_is : Unset unset
   pub told : Told unset (lines job) s.setup
-  pub said_is : vec_items s.said ≡ said Start 1 (lines job)
-  pub calls_is : vec_items s.calls ≡ calls_in (vec_items s.said)
+  pub said_is : s.said.items ≡ said Start 1 (lines job)

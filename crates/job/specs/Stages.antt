@@ -64,9 +64,9 @@ calling (Ok x) call = Ok (Some (call x))
 calling (Err e) call = Err (ByJob e)
 
 abbrev pub line_says : Verb → ℕ → List WordAt → Result (Option Call) Refused
-line_says verbs.Panel end ws = setting (panel_line end ws) (λ l. size_answer l.width l.height l.layers)
+line_says verbs.Panel end ws = setting (panel_line end ws) (λ l. size_answer l.size)
 line_says verbs.Layer end ws = setting (layer_line end ws) (λ l. by_prices (row_answer l.layer l.u l.v l.t))
-line_says verbs.Class end ws = setting (class_line end ws) (λ l. class_answer l.number l.half l.space l.pad)
+line_says verbs.Class end ws = setting (class_line end ws) (λ l. class_answer l.number l.measures)
 line_says verbs.Open end ws = setting (at_end (read_end ws) tt) (λ u. Ok u)
 line_says verbs.Place end ws = calling (place_line end ws) calls.Place
 line_says verbs.Lift end ws = calling (lift_line end ws) calls.Lift

@@ -1,6 +1,7 @@
 -- What a job is answered with. Assumes nothing.
-use Rattle.std.specs.Prelude.{◌≡◌, ℕ, List, length, MatchBool, nat_lt}
-use Rattle.panel.specs.declared.calls.Answer.{Answer}
+use Rattle.std.specs.Prelude.{◌≡◌, ℕ, List, length, Result, MatchBool, nat_lt}
+use Rattle.panel.specs.declared.calls.Done.{Done}
+use Rattle.panel.specs.declared.refusal.Refusal.{Refusal}
 use Rattle.panel.specs.Runs.{Driven}
 use Rattle.job.specs.declared.setup.Setup.{Setup}
 use Rattle.job.specs.declared.setup.Stage.TheVariants.{Start}
@@ -16,7 +17,7 @@ pub record Transcript (job text : List ℕ) : Type 0 where
   pub unset_is : Unset unset
   pub setup : Setup
   pub told : Told unset (lines job) setup
-  pub answers : List Answer
+  pub answers : List (Result Done Refusal)
   pub driven : Driven setup.sheet 256 (calls_in (said Start 1 (lines job))) answers
   pub text_is : text ≡ text_of (said Start 1 (lines job)) answers
 

@@ -1,13 +1,15 @@
 -- How the answers of a job are written. Assumes nothing.
-use Rattle.std.specs.Prelude.{ℕ, List, [], ◌∷◌, ◌++◌, drop, codes, decimal}
+use Rattle.std.specs.Prelude.{ℕ, List, [], ◌∷◌, ◌++◌, drop, Some, None, Ok, Err, Option, Result, codes, decimal}
+use Rattle.std.specs.Result.{result_map_both}
 use Rattle.panel.specs.declared.refusal.Level.{Level}
 use Rattle.panel.specs.declared.refusal.Level.TheVariants.{Job, Sheet, Panel}
 use Rattle.panel.specs.declared.refusal.Shown.{Shown}
-use Rattle.panel.specs.declared.calls.Answer.{Answer}
-use Rattle.panel.specs.declared.calls.Answer.TheVariants as answers
-use Rattle.panel.specs.Refusals.{shown_of_call}
-use Rattle.job.specs.declared.said.Reply.{Reply}
-use Rattle.job.specs.declared.said.Reply.TheVariants as reply
+use Rattle.panel.specs.declared.calls.Call.{Call}
+use Rattle.panel.specs.declared.calls.Done.{Done}
+use Rattle.panel.specs.declared.calls.Done.TheVariants.{Placed, Lifted}
+use Rattle.panel.specs.declared.refusal.Refusal.{Refusal}
+use Rattle.job.specs.declared.refused.Refused.{Refused}
+use Rattle.job.specs.declared.refused.Refused.TheVariants.{ByPanel}
 use Rattle.job.specs.declared.said.Said.{Said}
 use Rattle.job.specs.Refused.{shown}
 
@@ -26,24 +28,27 @@ refusal_text line s =
 abbrev pub number_text : ℕ → List ℕ
 number_text n = codes "ok " ++ (decimal n ++ codes "\n")
 
--- the line that answers a call
-abbrev pub answer_text : ℕ → Answer → List ℕ
-answer_text line (answers.Placed job) = number_text job
-answer_text line (answers.Lifted count) = number_text count
-answer_text line (answers.Refused e) = refusal_text line (shown_of_call e)
+-- the line that tells what a call did, or why a line or its call is refused
+abbrev pub outcome_text : ℕ → Result Done Refused → List ℕ
+outcome_text line (Ok (Placed job)) = number_text job
+outcome_text line (Ok (Lifted count)) = number_text count
+outcome_text line (Err e) = refusal_text line (shown e)
 
--- What one line is answered with, where these are the answers of the calls from here on; and the answers behind it.
-abbrev pub reply_text : ℕ → Reply → List Answer → List ℕ
-reply_text line (reply.Refused e) left = refusal_text line (shown e)
-reply_text line (reply.Call call) [] = []
-reply_text line (reply.Call call) (a ∷ left) = answer_text line a
+-- What one line comes to, where these are the answers of the calls from here on; its text; and the answers behind it.
+abbrev pub outcome : Result Call Refused → List (Result Done Refusal) → Option (Result Done Refused)
+outcome (Err e) left = Some (Err e)
+outcome (Ok call) [] = None
+outcome (Ok call) (a ∷ left) = Some (result_map_both (λ done. done) ByPanel a)
 
-abbrev pub answers_left : Reply → List Answer → List Answer
-answers_left (reply.Refused e) left = left
-answers_left (reply.Call call) left = drop 1 left
+abbrev pub reply_text : ℕ → Result Call Refused → List (Result Done Refusal) → List ℕ
+reply_text line r left = elim (outcome r left) [ None ↦ [] | Some o ↦ outcome_text line o ]
+
+abbrev pub answers_left : Result Call Refused → List (Result Done Refusal) → List (Result Done Refusal)
+answers_left (Err e) left = left
+answers_left (Ok call) left = drop 1 left
 
 -- what all lines are answered with, line for line
-abbrev pub text_of : List Said → List Answer → List ℕ
+abbrev pub text_of : List Said → List (Result Done Refusal) → List ℕ
 text_of [] left = []
 text_of (s ∷ rest) left = reply_text s.line s.reply left ++ text_of rest (answers_left s.reply left)
 

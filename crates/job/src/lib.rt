@@ -24,6 +24,6 @@ pub use number::parse_number;
 pub use reader::{Unreadable, Word, WordReader};
 pub use refused::Refused;
 pub use run::run_job;
-pub use said::{Reply, Said};
+pub use said::Said;
 pub use script::{Script, read_job};
 pub use setup::{Setup, Stage};

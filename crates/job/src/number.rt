@@ -7,13 +7,11 @@ ghost use Rattle.job.specs.Numbers.{number, digit, decimal};
 pub fn parse_number(word: &[u8]) -> Option<u32>
     ensures { result ≡ number word.now }
 {
-    if word.is_empty() || word.len() > 7 {
-        return None;
+    match word {
+        [b'0'] => Some(0),
+        [b'1'..=b'9', ..] if word.len() <= 7 => parse_digits(word),
+        _ => None,
     }
-    if word[0] == b'0' && word.len() > 1 {
-        return None;
-    }
-    parse_digits(word)
 }
 
 // The decimal value of at most 7 digits, or none if not all bytes are digits.
@@ -21,12 +19,12 @@ fn parse_digits(word: &[u8]) -> Option<u32>
     requires { length word.now ≤ 7 }
     ensures { result ≡ (if all_of digit word.now then Some (decimal 0 word.now) else None) }
 {
-    let mut value: u32 = 0;
+    let mut value = 0;
     for b in word {
-        if *b < b'0' || *b > b'9' {
+        if !b.is_ascii_digit() {
             return None;
         }
-        value = value * 10 + (*b - b'0') as u32;
+        value = value * 10 + u32::from(*b - b'0');
     }
     Some(value)
 }

@@ -1,26 +1,27 @@
 // A line that is read word by word.
+ghost use Rattle.std.specs.Prelude.{◌≤◌, length, IfSome};
 
 /// The most bytes that a line may have, without its newline.
 pub const LINE_BYTES: usize = 80;
 
 /// A word of a line, and its place, which is how many bytes of the line stand before it.
-#[derive(Clone, Copy)]
+#[derive(Clone, Copy, Debug, PartialEq, Eq)]
 pub struct Word<'a> {
     pub place: usize,
     pub text: &'a [u8],
 }
 
-/// Reads a line word by word, from the place `next` on, as long as there are more. What it hands out are parts of the line
+/// Reads a line word by word. The next word begins at the place `next`, if there is one. What it hands out are parts of the line
 /// itself.
-#[derive(Drop)]
+#[derive(Debug, PartialEq, Eq, Drop)]
 pub struct WordReader<'a> {
     pub(crate) line: &'a [u8],
-    pub(crate) next: usize,
-    pub(crate) more: bool,
+    pub(crate) next: Option<usize>,
+    ghost in_line: { ∥ IfSome next (λ place. place ≤ length line.now) ∥₁ },
 }
 
 /// The place of the first word of a line that does not fit, or the line's length if a word is missing.
-#[derive(Clone, Copy, PartialEq, Debug)]
+#[derive(Clone, Copy, Debug, PartialEq, Eq)]
 pub struct Unreadable {
     pub place: usize,
 }

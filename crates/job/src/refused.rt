@@ -2,12 +2,14 @@
 ghost use Rattle.std.specs.Prelude.{◌≡◌};
 ghost use Rattle.job.specs.Refused.{shown};
 ghost use Rattle.job.specs.declared.refused.Refused.TheVariants.{ByJob, BySheet, ByPanel};
+ghost use Rattle.panel.specs.declared.refusal.SheetRefusal.TheVariants.{Prices};
 
 use crate::reader::Unreadable;
+use costs::RowRefusal;
 use panel::{Level, Refusal, SheetRefusal, Shown};
 
 /// Why a line is refused: it cannot be read or is out of turn, or what it says is turned down.
-#[derive(Clone, Copy, PartialEq, Debug)]
+#[derive(Clone, Copy, Debug, PartialEq)]
 pub enum Refused {
     ByJob(Unreadable),
     BySheet(SheetRefusal),
@@ -40,5 +42,21 @@ impl From<SheetRefusal> for Refused {
 
     fn from(e: SheetRefusal) -> Refused {
         Refused::BySheet(e)
+    }
+}
+
+impl From<RowRefusal> for Refused {
+    ghost from_gives = { λ e r. r ≡ BySheet (Prices e) };
+
+    fn from(e: RowRefusal) -> Refused {
+        Refused::BySheet(e.into())
+    }
+}
+
+impl From<Refusal> for Refused {
+    ghost from_gives = { λ e r. r ≡ ByPanel e };
+
+    fn from(e: Refusal) -> Refused {
+        Refused::ByPanel(e)
     }
 }

@@ -19,7 +19,7 @@ const JOB_BYTES: usize = 65_536;
 /// How many places for pieces a job has.
 const PLACES: usize = 256;
 
-// A place in which no piece stands yet.
+// A place in which no piece stands yet. No piece is the usual one, so pieces have no default.
 const NO_PIECE: Piece = Piece {
     layer: 0,
     rect: Rect {
@@ -72,6 +72,7 @@ pub fn run_job(heap: Global, job: &[u8]) -> Result<String, AllocError>
         return String::from_str(heap, "no 16 0 job 65536\n");
     }
     let script = read_job(heap, job)?;
-    let answers = answer_calls(heap, script.setup, script.calls.as_slice())?;
+    let calls = script.calls(heap)?;
+    let answers = answer_calls(heap, script.setup, calls.as_slice())?;
     write_all(heap, script.said.as_slice(), answers.as_slice())
 }

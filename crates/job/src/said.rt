@@ -2,16 +2,9 @@
 use crate::refused::Refused;
 use panel::Call;
 
-/// A call to be made, or a refusal.
-#[derive(Clone, Copy)]
-pub enum Reply {
-    Call(Call),
-    Refused(Refused),
-}
-
-/// What a line comes to, and its number, counted from 1.
-#[derive(Clone, Copy)]
+/// What a line comes to, a call to be made or a refusal, and its number, counted from 1.
+#[derive(Clone, Copy, Debug, PartialEq)]
 pub struct Said {
     pub line: usize,
-    pub reply: Reply,
+    pub reply: Result<Call, Refused>,
 }

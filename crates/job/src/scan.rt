@@ -1,6 +1,5 @@
-// Looking for a byte, and at a whole word.
+// Looking for a byte.
 ghost use Rattle.std.specs.Prelude.{◌≡◌, ◌≤◌, length};
-ghost use Rattle.std.specs.Str.{bytes_eq};
 ghost use Rattle.job.specs.Text.{before};
 
 // How many bytes stand before the first `b`: all of them, if there is none.
@@ -8,17 +7,5 @@ pub(crate) fn find(bytes: &[u8], b: u8) -> usize
     ensures value { result ≡ before b bytes.now }
     ensures bound { result ≤ length bytes.now }
 {
-    for (i, x) in bytes.iter().enumerate() {
-        if *x == b {
-            return i;
-        }
-    }
-    bytes.len()
-}
-
-// Whether a text is just this word.
-pub(crate) fn spells(text: &[u8], word: &[u8]) -> bool
-    ensures { result ≡ bytes_eq text.now word.now }
-{
-    text == word
+    bytes.iter().position(|x| *x == b).unwrap_or(bytes.len())
 }

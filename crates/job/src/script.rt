@@ -1,5 +1,5 @@
 // Reading a job from its first line to its last.
-ghost use Rattle.std.specs.Prelude.{◌≡◌, ◌++◌, IfOk, Ok, Err, OnOk};
+ghost use Rattle.std.specs.Prelude.{◌≡◌, ◌++◌, IfOk, OnOk};
 ghost use Rattle.job.specs.declared.setup.Stage.TheVariants as stages;
 ghost use Rattle.job.specs.Text.{lines};
 ghost use Rattle.job.specs.Said.{replied, said, calls_in, Told};
@@ -8,18 +8,17 @@ ghost use Rattle.job.specs.Scripts.{Read, Unset};
 use crate::forms::{CostChoice, RegisterChoice};
 use crate::lines::LineReader;
 use crate::refused::Refused;
-use crate::said::{Reply, Said};
+use crate::said::Said;
 use crate::setup::{Setup, Stage};
 use costs::PriceList;
 use panel::{Call, Sheet};
 use std::alloc::{AllocError, Global};
 
-/// What a job says: what its accepted lines set, what each line that is answered comes to, and the calls among that.
-#[derive(Drop)]
+/// What a job says: what its accepted lines set, and what each line that is answered comes to.
+#[derive(Debug, PartialEq, Drop)]
 pub struct Script {
     pub setup: Setup,
     pub said: Vec<Said>,
-    pub calls: Vec<Call>,
 }
 
 impl Setup {
@@ -37,27 +36,25 @@ impl Setup {
     }
 }
 
+impl Script {
+    /// The calls among what its lines come to.
+    pub fn calls(&self, heap: Global) -> Result<Vec<Call>, AllocError>
+        ensures { IfOk result (λ calls. calls.items ≡ calls_in self.now.said.items) }
+    {
+        self.said.iter().filter_map(|s| s.reply.ok()).collect(heap)
+    }
+}
+
 // Notes what a line came to.
 fn note(
     said: &mut Vec<Said>,
-    calls: &mut Vec<Call>,
     line: usize,
     answer: Result<Option<Call>, Refused>,
 ) -> Result<(), AllocError>
-    ensures said { OnOk result (said.new.items ≡ said.old.items ++ replied line answer) }
-    ensures calls { OnOk result (calls.new.items ≡ calls.old.items ++ calls_in (replied line answer)) }
+    ensures { OnOk result (said.new.items ≡ said.old.items ++ replied line answer) }
 {
-    match answer {
-        Ok(None) => {}
-        Ok(Some(call)) => {
-            let reply = Reply::Call(call);
-            said.push(Said { line, reply })?;
-            calls.push(call)?;
-        }
-        Err(e) => {
-            let reply = Reply::Refused(e);
-            said.push(Said { line, reply })?;
-        }
+    if let Some(reply) = answer.transpose() {
+        said.push(Said { line, reply })?;
     }
     Ok(())
 }
@@ -68,13 +65,9 @@ pub fn read_job(heap: Global, job: &[u8]) -> Result<Script, AllocError>
 {
     let mut setup = Setup::new();
     let mut said = Vec::new(heap);
-    let mut calls = Vec::new(heap);
-    let mut reader = LineReader::new(job);
-    let mut number = 0;
-    while let Some(line) = reader.next_line() {
-        number += 1;
+    for (i, line) in LineReader::new(job).enumerate() {
         let answer = setup.line(line.text);
-        note(&mut said, &mut calls, number, answer)?;
+        note(&mut said, i + 1, answer)?;
     }
-    Ok(Script { setup, said, calls })
+    Ok(Script { setup, said })
 }

@@ -1,37 +1,12 @@
 // Reading what a line says.
 ghost use Rattle.std.specs.Prelude.{◌≡◌};
 ghost use Rattle.job.specs.Reading.{of_words};
-ghost use Rattle.job.specs.Forms.{verb, read_all, panel_line, layer_line, class_line, place_line, lift_line};
+ghost use Rattle.job.specs.Forms.{read_all, panel_line, layer_line, class_line, place_line, lift_line};
 
-use crate::forms::{ClassLine, CostChoice, LayerLine, PanelLine, RegisterChoice, Verb};
+use crate::forms::{ClassLine, CostChoice, LayerLine, PanelLine, RegisterChoice};
 use crate::reader::{Unreadable, WordReader};
-use crate::scan::spells;
+use geometry::{Measures, Size};
 use panel::Placement;
-
-// The kind of a line that begins with this word.
-pub(crate) fn read_verb(word: &[u8]) -> Option<Verb>
-    ensures { result ≡ verb word.now }
-{
-    if spells(word, b"panel") {
-        Some(Verb::Panel)
-    } else if spells(word, b"layer") {
-        Some(Verb::Layer)
-    } else if spells(word, b"class") {
-        Some(Verb::Class)
-    } else if spells(word, b"open") {
-        Some(Verb::Open)
-    } else if spells(word, b"place") {
-        Some(Verb::Place)
-    } else if spells(word, b"lift") {
-        Some(Verb::Lift)
-    } else if spells(word, b"quote") {
-        Some(Verb::Quote)
-    } else if spells(word, b"connect") {
-        Some(Verb::Connect)
-    } else {
-        None
-    }
-}
 
 // Numbers, and no word behind them.
 pub(crate) fn read_all<const N: usize>(words: &mut WordReader<'_>) -> Result<[u32; N], Unreadable>
@@ -47,23 +22,18 @@ pub(crate) fn read_panel(words: &mut WordReader<'_>) -> Result<PanelLine, Unread
     ensures { result ≡ of_words panel_line words.old }
 {
     let [width, height, layers] = words.numbers::<3>()?;
-    let money = words.letter(b'm', b'v')?;
-    let plain = words.letter(b'p', b's')?;
+    let cost = words.read(CostChoice::named)?;
+    let register = words.read(RegisterChoice::named)?;
     words.finish()?;
-    Ok(PanelLine {
+    let size = Size {
         width,
         height,
         layers,
-        cost: if money {
-            CostChoice::Money
-        } else {
-            CostChoice::Vias
-        },
-        register: if plain {
-            RegisterChoice::Plain
-        } else {
-            RegisterChoice::Strips
-        },
+    };
+    Ok(PanelLine {
+        size,
+        cost,
+        register,
     })
 }
 
@@ -80,12 +50,8 @@ pub(crate) fn read_class(words: &mut WordReader<'_>) -> Result<ClassLine, Unread
     ensures { result ≡ of_words class_line words.old }
 {
     let [number, half, space, pad] = read_all::<4>(words)?;
-    Ok(ClassLine {
-        number,
-        half,
-        space,
-        pad,
-    })
+    let measures = Measures { half, space, pad };
+    Ok(ClassLine { number, measures })
 }
 
 // The words behind `place`: a layer, a rectangle, a net and a space.

@@ -4,7 +4,7 @@ use costs::PriceList;
 use panel::Sheet;
 
 /// The stages of a job: until a panel line is accepted, until the panel is opened, and from then on.
-#[derive(Clone, Copy, PartialEq, Debug)]
+#[derive(Clone, Copy, Debug, PartialEq, Eq)]
 pub enum Stage {
     Start,
     Setup,
@@ -12,7 +12,7 @@ pub enum Stage {
 }
 
 /// The stage of a job, and what its accepted lines have set so far.
-#[derive(Drop)]
+#[derive(Debug, PartialEq, Eq, Drop)]
 pub struct Setup {
     pub stage: Stage,
     pub sheet: Sheet,

@@ -1,27 +1,24 @@
 // What a line of a job comes to.
-ghost use Rattle.std.specs.Prelude.{◌≡◌, Some, None, MatchResult, OnOk};
+ghost use Rattle.std.specs.Prelude.{◌≡◌, Some, MatchResult, OnOk};
 ghost use Rattle.job.specs.declared.forms.Verb.TheVariants as verbs;
 ghost use Rattle.job.specs.Text.{words};
-ghost use Rattle.job.specs.Reading.{of_words};
-ghost use Rattle.job.specs.Stages.{line_says, by_verb, answer_of, led_on, led_on_by};
-ghost use Rattle.job.specs.Settings.{Sets, SetBy};
+ghost use Rattle.job.specs.Stages.{line_says, by_verb, answer_of, led_on_by};
+ghost use Rattle.job.specs.Settings.{Taken, SetBy};
 
 use crate::forms::Verb;
 use crate::reader::{LINE_BYTES, Unreadable, WordReader};
 use crate::refused::Refused;
-use crate::sentences::{read_class, read_layer, read_lift, read_panel, read_place, read_verb};
+use crate::sentences::{read_class, read_layer, read_lift, read_panel, read_place};
 use crate::setup::{Setup, Stage};
-use panel::{Call, SheetRefusal};
+use panel::Call;
 
 impl Setup {
     // A panel line sets the size, the kind of cost and the register.
     fn set_panel(&mut self, words: &mut WordReader<'_>) -> Result<Option<Call>, Refused>
-        ensures answer { result ≡ of_words (line_says verbs.Panel) words.old }
-        ensures set { Sets verbs.Panel words.old result self.old self.new }
-        ensures stage { OnOk result (self.new.stage ≡ led_on self.old.stage verbs.Panel) }
+        ensures { Taken (line_says verbs.Panel) verbs.Panel words.old result self.old self.new }
     {
         let line = read_panel(words)?;
-        self.sheet.set_size(line.width, line.height, line.layers)?;
+        self.sheet.set_size(line.size)?;
         self.stage = Stage::Setup;
         self.cost = line.cost;
         self.register = line.register;
@@ -30,34 +27,25 @@ impl Setup {
 
     // A layer line sets the prices of a layer.
     fn set_layer(&mut self, words: &mut WordReader<'_>) -> Result<Option<Call>, Refused>
-        ensures answer { result ≡ of_words (line_says verbs.Layer) words.old }
-        ensures set { Sets verbs.Layer words.old result self.old self.new }
-        ensures stage { OnOk result (self.new.stage ≡ led_on self.old.stage verbs.Layer) }
+        ensures { Taken (line_says verbs.Layer) verbs.Layer words.old result self.old self.new }
     {
         let line = read_layer(words)?;
-        if let Err(e) = self.prices.set(line.layer, line.u, line.v, line.t) {
-            return Err(Refused::BySheet(SheetRefusal::Prices(e)));
-        }
+        self.prices.set(line.layer, line.u, line.v, line.t)?;
         Ok(None)
     }
 
     // A class line sets the measures of a class.
     fn set_class(&mut self, words: &mut WordReader<'_>) -> Result<Option<Call>, Refused>
-        ensures answer { result ≡ of_words (line_says verbs.Class) words.old }
-        ensures set { Sets verbs.Class words.old result self.old self.new }
-        ensures stage { OnOk result (self.new.stage ≡ led_on self.old.stage verbs.Class) }
+        ensures { Taken (line_says verbs.Class) verbs.Class words.old result self.old self.new }
     {
         let line = read_class(words)?;
-        self.sheet
-            .set_class(line.number, line.half, line.space, line.pad)?;
+        self.sheet.set_class(line.number, line.measures)?;
         Ok(None)
     }
 
     // An open line leads on to the calls.
     fn open(&mut self, words: &mut WordReader<'_>) -> Result<Option<Call>, Refused>
-        ensures answer { result ≡ of_words (line_says verbs.Open) words.old }
-        ensures set { Sets verbs.Open words.old result self.old self.new }
-        ensures stage { OnOk result (self.new.stage ≡ led_on self.old.stage verbs.Open) }
+        ensures { Taken (line_says verbs.Open) verbs.Open words.old result self.old self.new }
     {
         words.finish()?;
         self.stage = Stage::Open;
@@ -66,9 +54,7 @@ impl Setup {
 
     // What a line of this kind comes to at the stage of the job.
     fn take_line(&mut self, verb: Verb, words: &mut WordReader<'_>) -> Result<Option<Call>, Refused>
-        ensures answer { result ≡ of_words (by_verb self.old.stage (Some verb)) words.old }
-        ensures set { Sets verb words.old result self.old self.new }
-        ensures stage { OnOk result (self.new.stage ≡ led_on self.old.stage verb) }
+        ensures { Taken (by_verb self.old.stage (Some verb)) verb words.old result self.old self.new }
     {
         match (self.stage, verb) {
             (Stage::Start, Verb::Panel) => self.set_panel(words),
@@ -77,7 +63,7 @@ impl Setup {
             (Stage::Setup, Verb::Open) => self.open(words),
             (Stage::Open, Verb::Place) => Ok(Some(Call::Place(read_place(words)?))),
             (Stage::Open, Verb::Lift) => Ok(Some(Call::Lift(read_lift(words)?))),
-            _ => Err(Refused::ByJob(Unreadable { place: 0 })),
+            _ => Err(Unreadable { place: 0 }.into()),
         }
     }
 
@@ -88,15 +74,10 @@ impl Setup {
         ensures stage { OnOk result (self.new.stage ≡ led_on_by self.old.stage (words 0 text.now)) }
     {
         if text.len() > LINE_BYTES {
-            return Err(Refused::ByJob(Unreadable { place: LINE_BYTES }));
+            return Err(Unreadable { place: LINE_BYTES }.into());
         }
         let mut words = WordReader::new(text);
-        let Some(first) = words.next_word() else {
-            return Err(Refused::ByJob(Unreadable { place: 0 }));
-        };
-        let Some(verb) = read_verb(first.text) else {
-            return Err(Refused::ByJob(Unreadable { place: 0 }));
-        };
+        let verb = words.read(Verb::named)?;
         self.take_line(verb, &mut words)
     }
 }

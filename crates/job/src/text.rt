@@ -1,12 +1,22 @@
 // How the answers of a job are written.
-ghost use Rattle.std.specs.Prelude.{◌≡◌, ◌++◌, IfOk, string_bytes};
-ghost use Rattle.job.specs.Written.{level_word, refusal_text, number_text, answer_text, reply_text, answers_left, text_of};
+ghost use Rattle.std.specs.Prelude.{◌≡◌, IfOk, Some, string_bytes};
+ghost use Rattle.job.specs.Written.{level_word, outcome, outcome_text, answers_left, text_of};
 
-use crate::said::{Reply, Said};
-use panel::{Answer, Level, Shown};
+use crate::refused::Refused;
+use crate::said::Said;
+use panel::{Answer, Call, Done, Level, Shown};
 use std::alloc::{AllocError, Global};
+use std::fmt;
+use std::slice::Iter;
 
-// The word of a level.
+/// What a line of a job comes to once its call is answered: what the call did, or why the line or its call is refused.
+#[derive(Clone, Copy, Debug, PartialEq)]
+pub(crate) struct Outcome {
+    line: usize,
+    outcome: Result<Done, Refused>,
+}
+
+// The word of a level. It is printed here alone, so its type, which is panel's, has no `Display`.
 fn level_word(level: Level) -> &'static str
     ensures { result.now ≡ level_word level }
 {
@@ -17,57 +27,38 @@ fn level_word(level: Level) -> &'static str
     }
 }
 
-// The line that tells a refusal.
-pub(crate) fn write_refusal(heap: Global, line: usize, shown: &Shown) -> Result<String, AllocError>
-    ensures { IfOk result (λ t. string_bytes t ≡ refusal_text line shown.now) }
-{
-    let number = shown.number;
-    let level = level_word(shown.level);
-    let returned = shown.returned;
-    format!(in heap; "no {number} {line} {level} {returned}\n")
-}
+impl fmt::Display for Outcome {
+    ghost output = { λ o. Some (outcome_text o.line o.outcome) };
 
-// The line that tells a number.
-pub(crate) fn write_number(heap: Global, n: u64) -> Result<String, AllocError>
-    ensures { IfOk result (λ t. string_bytes t ≡ number_text n) }
-{
-    format!(in heap; "ok {n}\n")
-}
-
-// The line that answers a call.
-fn write_answer(heap: Global, line: usize, answer: &Answer) -> Result<String, AllocError>
-    ensures { IfOk result (λ t. string_bytes t ≡ answer_text line answer.now) }
-{
-    match *answer {
-        Answer::Placed(job) => write_number(heap, job as u64),
-        Answer::Lifted(count) => write_number(heap, count as u64),
-        Answer::Refused(e) => write_refusal(heap, line, &e.shown()),
+    fn fmt<W: fmt::Write>(&self, f: &mut fmt::Formatter<W>) -> fmt::Result {
+        match self.outcome {
+            Ok(Done::Placed(job)) => writeln!(f, "ok {job}"),
+            Ok(Done::Lifted(count)) => writeln!(f, "ok {count}"),
+            Err(e) => {
+                let Shown {
+                    number,
+                    level,
+                    returned,
+                } = e.shown();
+                let line = self.line;
+                let level = level_word(level);
+                writeln!(f, "no {number} {line} {level} {returned}")
+            }
+        }
     }
 }
 
-// What a line is answered with, where these are the answers of the calls from here on.
-fn write_reply(heap: Global, said: &Said, left: &[Answer]) -> Result<String, AllocError>
-    ensures { IfOk result (λ t. string_bytes t ≡ reply_text said.now.line said.now.reply left.now) }
-{
-    match said.reply {
-        Reply::Refused(e) => write_refusal(heap, said.line, &e.shown()),
-        Reply::Call(_) => match left {
-            [] => Ok(String::new(heap)),
-            [answer, ..] => write_answer(heap, said.line, answer),
-        },
-    }
-}
-
-// The answers of the calls behind a line.
-fn behind<'a>(reply: &Reply, left: &'a [Answer]) -> &'a [Answer]
-    ensures { result.now ≡ answers_left reply.now left.now }
+// What a line comes to, where these are the answers of the calls from here on.
+fn outcome_of(
+    reply: &Result<Call, Refused>,
+    left: &mut Iter<'_, Answer>,
+) -> Option<Result<Done, Refused>>
+    ensures outcome { result ≡ outcome reply.now left.old.rest.now }
+    ensures left { left.new.rest.now ≡ answers_left reply.now left.old.rest.now }
 {
     match *reply {
-        Reply::Refused(_) => left,
-        Reply::Call(_) => match left {
-            [] => left,
-            [_, rest @ ..] => rest,
-        },
+        Ok(_) => Some(left.next()?.map_err(Refused::from)),
+        Err(e) => Some(Err(e)),
     }
 }
 
@@ -80,11 +71,13 @@ pub(crate) fn write_all(
     ensures { IfOk result (λ t. string_bytes t ≡ text_of said.now answers.now) }
 {
     let mut text = String::new(heap);
-    let mut left = answers;
+    let mut left = answers.iter();
     for s in said {
-        let reply = write_reply(heap, s, left)?;
-        text.push_str(reply.as_str())?;
-        left = behind(&s.reply, left);
+        if let Some(outcome) = outcome_of(&s.reply, &mut left) {
+            let line = s.line;
+            let outcome = Outcome { line, outcome };
+            write!(text, "{outcome}")?;
+        }
     }
     Ok(text)
 }

@@ -1,13 +1,35 @@
 // The words of a line.
-ghost use Rattle.std.specs.Prelude.{◌≡◌, true, [], ◌∷◌, drop, MatchOption, OnOk};
+ghost use Rattle.std.specs.Prelude.{◌≡◌, List, ℕ, Option, drop, OnOk};
+ghost use Rattle.std.specs.Iterator.{item_count};
 ghost use Rattle.std.specs.Result.{result_err};
-ghost use Rattle.job.specs.Text.{words, word_at};
-ghost use Rattle.job.specs.Numbers.{number};
-ghost use Rattle.job.specs.Reading.{left, of_words, read_by, read_numbers, read_end, letter};
+ghost use Rattle.job.specs.Text.{words};
+ghost use Rattle.job.specs.Reading.{NextWord, Computes, left, of_words, read_by, read_numbers, read_end};
 
 use crate::number::parse_number;
 use crate::reader::{Unreadable, Word, WordReader};
-use crate::scan::{find, spells};
+use crate::scan::find;
+
+impl<'a> Iterator for WordReader<'a> {
+    type Item = Word<'a>;
+
+    ghost next_gives = { NextWord };
+
+    ghost remaining = { item_count left };
+
+    /// The next word, or none if none is left.
+    fn next(&mut self) -> Option<Word<'a>> {
+        let place = self.next?;
+        let rest = &self.line[place..];
+        let end = find(rest, b' ');
+        self.next = if end < rest.len() {
+            Some(place + end + 1)
+        } else {
+            None
+        };
+        let text = &rest[..end];
+        Some(Word { place, text })
+    }
+}
 
 impl<'a> WordReader<'a> {
     /// A reader at the first word of a line.
@@ -17,46 +39,23 @@ impl<'a> WordReader<'a> {
     {
         WordReader {
             line,
-            next: 0,
-            more: true,
+            next: Some(0),
         }
     }
 
-    /// The next word, or none if none is left.
-    pub fn next_word(&mut self) -> Option<Word<'a>>
-        ensures words { MatchOption result ((left self.old ≡ []) × (left self.new ≡ [])) (λ w. left self.old ≡ word_at w.place w.text.now ∷ left self.new) }
-        ensures line { self.new.line.now ≡ self.old.line.now }
-    {
-        let place = self.next;
-        if !self.more || place > self.line.len() {
-            return None;
-        }
-        let rest = &self.line[place..];
-        let end = find(rest, b' ');
-        let text = &rest[0..end];
-        if end < rest.len() {
-            self.next = place + end + 1;
-        } else {
-            self.more = false;
-        }
-        Some(Word { place, text })
-    }
-
-    /// The next word as a number.
-    pub fn number(&mut self) -> Result<u32, Unreadable>
-        ensures answer { result ≡ of_words (read_by number) self.old }
+    /// The next word, as what `parse` makes of its bytes.
+    pub fn read<T, F: FnOnce(&[u8]) -> Option<T>>(&mut self, parse: F) -> Result<T, Unreadable>
+        requires { F.IsAlwaysCallable parse }
+        ensures answer { (value : List ℕ → Option T) → Computes F.FnOnce parse value → result ≡ of_words (read_by value) self.old }
         ensures words { left self.new ≡ drop 1 (left self.old) }
         ensures line { self.new.line.now ≡ self.old.line.now }
     {
-        let Some(word) = self.next_word() else {
+        let Some(word) = self.next() else {
             return Err(Unreadable {
                 place: self.line.len(),
             });
         };
-        match parse_number(word.text) {
-            Some(value) => Ok(value),
-            None => Err(Unreadable { place: word.place }),
-        }
+        parse(word.text).ok_or(Unreadable { place: word.place })
     }
 
     /// The next words as numbers.
@@ -66,39 +65,19 @@ impl<'a> WordReader<'a> {
         ensures line { self.new.line.now ≡ self.old.line.now }
     {
         let mut values = [0; N];
-        for i in 0..N {
-            values[i] = self.number()?;
+        for value in values.iter_mut() {
+            *value = self.read(parse_number)?;
         }
         Ok(values)
-    }
-
-    /// The next word as one of two letters: whether it is the first.
-    pub fn letter(&mut self, one: u8, other: u8) -> Result<bool, Unreadable>
-        ensures answer { result ≡ of_words (read_by (letter one other)) self.old }
-        ensures words { left self.new ≡ drop 1 (left self.old) }
-        ensures line { self.new.line.now ≡ self.old.line.now }
-    {
-        let Some(word) = self.next_word() else {
-            return Err(Unreadable {
-                place: self.line.len(),
-            });
-        };
-        if spells(word.text, &[one]) {
-            Ok(true)
-        } else if spells(word.text, &[other]) {
-            Ok(false)
-        } else {
-            Err(Unreadable { place: word.place })
-        }
     }
 
     /// That no word is left; else the place of the next.
     pub fn finish(&self) -> Result<(), Unreadable>
         ensures { result_err result ≡ read_end (left self.now) }
     {
-        if self.more && self.next <= self.line.len() {
-            return Err(Unreadable { place: self.next });
+        match self.next {
+            Some(place) => Err(Unreadable { place }),
+            None => Ok(()),
         }
-        Ok(())
     }
 }

@@ -1,19 +1,13 @@
-use Rattle.std.proofs.Common.{arith}
-use Rattle.job.proofs.Scans.{before_here, before_past, before_end}
+use Rattle.std.proofs.Common.{rules, tests, ◌≡◌, eqb, length, ap, ◌∙◌}
+use Rattle.std.specs.Option.{unwrap_or}
+use Rattle.std.specs.List.{position}
+use Rattle.std.proofs.lemmas.Iterator.{YieldsList-from_slice}
+use Rattle.std.proofs.lemmas.Iterator.Search.{position_from_yields_List}
+use Rattle.job.proofs.Scans.{before_found}
 use Rattle.job.proofs.scan.find.Goals as goal
 
-pub returns-then-x-b : goal.returns-then-x-b
-returns-then-x-b c = record {
-  value = omega (arith, c.loop-i.invariant, before_here c.args.b c.args.bytes.now c.loop-i.i c.loop-i-test.true c.if-x-b.true);
-  bound = omega arith;
-}
-
-pub loop-i-preserved : goal.loop-i-preserved
-loop-i-preserved c =
-    omega (arith, c.loop-i.invariant, before_past c.args.b c.args.bytes.now c.loop-i.i c.loop-i-test.true c.if-x-b.false)
-
-pub returns : goal.returns
-returns c = record {
-  value = omega (arith, c.loop-i.invariant, before_end c.args.b c.args.bytes.now c.loop-i.i c.loop-i-test.false);
-  bound = omega arith;
-}
+pub returns-clause-value : goal.returns-clause-value
+returns-clause-value c =
+    let found : c.position.result ≡ position (λ x. eqb x c.args.b) c.args.bytes.now =
+    position_from_yields_List (λ x. eqb x c.args.b) _ _ c.position.result c.position.ensures.ran (YieldsList-from_slice c.args.bytes.now (cc)) (λ x r q k. search (rules, tests)) in
+    c.unwrap_or.ensures ∙ (ap (λ o. unwrap_or o (length c.args.bytes.now)) found ∙ before_found c.args.b c.args.bytes.now)

@@ -1,11 +1,9 @@
-use Rattle.std.proofs.Common.{ℕ, List, drop, sym, ap, ◌∙◌}
-use Rattle.job.specs.Reading.{read_end}
+use Rattle.std.proofs.Common.{drop, sym, ap, ◌∙◌}
+use Rattle.job.specs.Reading.{words_from, read_end}
 use Rattle.job.proofs.Cuts.{words_cut}
-use Rattle.job.proofs.Lefts.{left_more}
 use Rattle.job.proofs.reader.WordReader.finish.Goals as goal
 
-pub returns-then-self-2 : goal.returns-then-self-2
-returns-then-self-2 c =
-    let at : ℕ = c.args.self.now.next in
-    let rest : List ℕ = drop at c.args.self.now.line.now in
-    sym (ap read_end (left_more c.args.self.now c.if-self.true c.if-self-2.true ∙ words_cut at rest))
+pub returns-in-Some : goal.returns-in-Some
+returns-in-Some c =
+    sym (ap (λ next. read_end (words_from c.args.self.now.line.now next)) c.in-Some.is
+    ∙ ap read_end (words_cut c.in-Some.place (drop c.in-Some.place c.args.self.now.line.now)))

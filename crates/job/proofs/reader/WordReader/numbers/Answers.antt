@@ -1,54 +1,42 @@
-use Rattle.std.proofs.Common.{◌≡◌, ℕ, ◌-◌, ◌<◌, List, length, take, drop, Ok, Err, sym, refl, ap, ◌∙◌, arith, length-set}
-use Rattle.std.proofs.lemmas.List.{take_more_set, drop-drop, take_all, length-replicate}
+use Rattle.std.proofs.Common.{rules, ◌≡◌, ℕ, ◌<◌, List, length, take, drop, Ok, Err, sym, ap, ◌∙◌, arith, length-set}
+use Rattle.std.proofs.lemmas.List.{take_more_set, drop-drop, take_all}
 use Rattle.std.proofs.lemmas.Result.{err_from_is_err_and}
 use Rattle.job.specs.Text.{WordAt}
 use Rattle.job.specs.Numbers.{number}
-use Rattle.job.specs.Reading.{left, read_by}
-use Rattle.job.proofs.Numbered.{behind_none, read_goes_on, read_stops, read_ends}
+use Rattle.job.specs.Reading.{left, of_words, read_by}
+use Rattle.job.proofs.Numbered.{read_goes_on, read_stops, read_ends}
 use Rattle.job.proofs.reader.WordReader.numbers.Goals as goal
 
-pub loop-i-init : goal.loop-i-init
-loop-i-init g c =
-    let e : g.row.N - 0 ≡ g.row.N = omega arith in
-    (rw e (sym (behind_none _)), refl, refl, length-replicate g.row.N 0)
-
-pub returns-in_err-values : goal.returns-in_err-values
-returns-in_err-values g c =
+pub returns-in_err-value-clause-answer : goal.returns-in_err-value-clause-answer
+returns-in_err-value-clause-answer g c =
     let p = err_from_is_err_and c.from_residual.result c.from_residual.ensures.1 in
     let end : ℕ = length c.args.self.now.line.now in
-    let ws : List WordAt = left c.loop-i.self in
-    let stop : read_by number end ws ≡ Err c.in_err-values.field-0.0 =
-    ap (λ l. read_by number (length l) ws) (sym c.loop-i.invariant.2) ∙ (sym c.number.ensures.answer ∙ c.in_err-values.was) in
-    rw (p.1, p.2) record {
-      answer = sym (c.loop-i.invariant.0 ∙ read_stops (take c.loop-i.i c.loop-i.values) g.row.N c.loop-i.i end ws _ c.loop-i-test.true stop);
-      words = tt;
-      line = c.number.ensures.line ∙ c.loop-i.invariant.2;
-    }
+    let ws : List WordAt = left c.loop-value.self in
+    let read : c.read.result ≡ of_words (read_by number) c.loop-value.self = c.read.ensures.answer number (λ word x r. search rules) in
+    let stop : read_by number end ws ≡ Err c.in_err-value.field-0.0 =
+    ap (λ l. read_by number (length l) ws) (sym c.loop-value.invariant.2) ∙ (sym read ∙ c.in_err-value.was) in
+    rw (p.1, p.2) (sym (c.loop-value.invariant.0 ∙ read_stops (take c.loop-value.value-index c.loop-value.value-items) g.row.N c.loop-value.value-index end ws _ c.loop-value-test.true stop))
 
-pub loop-i-preserved : goal.loop-i-preserved
-loop-i-preserved g c =
-    let i : ℕ = c.loop-i.i in
-    let n : ℕ = c.in_ok-values.field-0 in
+pub loop-value-preserved : goal.loop-value-preserved
+loop-value-preserved g c =
+    let i : ℕ = c.loop-value.value-index in
+    let n : ℕ = c.in_ok-value.field-0 in
     let end : ℕ = length c.args.self.now.line.now in
-    let ws : List WordAt = left c.loop-i.self in
+    let ws : List WordAt = left c.loop-value.self in
+    let read : c.read.result ≡ of_words (read_by number) c.loop-value.self = c.read.ensures.answer number (λ word x r. search rules) in
     let goes : read_by number end ws ≡ Ok n =
-    ap (λ l. read_by number (length l) ws) (sym c.loop-i.invariant.2) ∙ (sym c.number.ensures.answer ∙ c.in_ok-values.was) in
-    let within : i < length c.loop-i.values = omega (arith, c.loop-i.invariant.3, c.loop-i-test.true) in (
-      c.loop-i.invariant.0 ∙ (read_goes_on (take i c.loop-i.values) g.row.N i end ws n c.loop-i-test.true goes
-          ∙ rw (take_more_set c.loop-i.values i n within, c.number.ensures.words)),
-      c.number.ensures.words ∙ (ap (drop 1) c.loop-i.invariant.1 ∙ drop-drop 1 i (left c.args.self.now)),
-      c.number.ensures.line ∙ c.loop-i.invariant.2,
-      length-set c.loop-i.values i n ∙ c.loop-i.invariant.3,
+    ap (λ l. read_by number (length l) ws) (sym c.loop-value.invariant.2) ∙ (sym read ∙ c.in_ok-value.was) in
+    let within : i < length c.loop-value.value-items = omega (arith, c.loop-value.invariant.3, c.loop-value-test.true) in (
+      c.loop-value.invariant.0 ∙ (read_goes_on (take i c.loop-value.value-items) g.row.N i end ws n c.loop-value-test.true goes
+          ∙ rw (take_more_set c.loop-value.value-items i n within, c.read.ensures.words)),
+      c.read.ensures.words ∙ (ap (drop 1) c.loop-value.invariant.1 ∙ drop-drop 1 i (left c.args.self.now)),
+      c.read.ensures.line ∙ c.loop-value.invariant.2,
+      length-set c.loop-value.value-items i n ∙ c.loop-value.invariant.3,
     )
 
-pub returns : goal.returns
-returns g c =
-    let i : ℕ = c.loop-i.i in
+pub returns-clause-answer : goal.returns-clause-answer
+returns-clause-answer g c =
+    let i : ℕ = c.loop-value.value-index in
     let end : ℕ = length c.args.self.now.line.now in
-    let at : i ≡ g.row.N = omega arith in
-    record {
-      answer = sym (c.loop-i.invariant.0 ∙ (read_ends (take i c.loop-i.values) g.row.N i end (left c.loop-i.self) c.loop-i-test.false
-          ∙ ap Ok (take_all i c.loop-i.values (omega (arith, c.loop-i.invariant.3)))));
-      words = c.loop-i.invariant.1 ∙ ap (λ k. drop k (left c.args.self.now)) at;
-      line = c.loop-i.invariant.2;
-    }
+    sym (c.loop-value.invariant.0 ∙ (read_ends (take i c.loop-value.value-items) g.row.N i end (left c.loop-value.self) c.loop-value-test.false
+    ∙ ap Ok (take_all i c.loop-value.value-items (omega (arith, c.loop-value.invariant.3)))))
