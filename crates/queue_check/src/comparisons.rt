@@ -7,32 +7,32 @@ use std::cell::Cell;
 use std::fmt;
 
 /// How many elements were put in and taken out, and the comparisons of all puts and of all takes.
-#[derive(Clone, Copy)]
+#[derive(Clone, Copy, Debug, PartialEq, Eq)]
 pub struct Comparisons {
     pub elements: usize,
     pub puts: u64,
     pub takes: u64,
 }
 
-/// Comparisons a hundred times over, for each element.
+/// Comparisons a hundred times over, for each element; 0 of no elements.
 fn hundredths(comparisons: u64, elements: usize) -> u64 {
-    if elements == 0 {
-        return 0;
-    }
-    comparisons.wrapping_mul(100) / elements as u64
+    comparisons
+        .wrapping_mul(100)
+        .checked_div(elements as u64)
+        .unwrap_or(0)
 }
 
 impl fmt::Display for Comparisons {
     fn fmt<W: fmt::Write>(&self, f: &mut fmt::Formatter<W>) -> fmt::Result {
         let put = hundredths(self.puts, self.elements);
         let take = hundredths(self.takes, self.elements);
-        let put_whole = put / 100;
-        let put_part = put % 100;
-        let take_whole = take / 100;
-        let take_part = take % 100;
         write!(
             f,
-            "{put_whole}.{put_part:02} for each put, {take_whole}.{take_part:02} for each take"
+            "{}.{:02} for each put, {}.{:02} for each take",
+            put / 100,
+            put % 100,
+            take / 100,
+            take % 100
         )
     }
 }
@@ -45,17 +45,18 @@ pub(crate) fn count_comparisons(heap: Global, n: usize) -> Result<Comparisons, A
         count: &count,
     };
     let mut slots = vec![in heap; blank; n]?;
-    let mut queue = Queue::new(slots.as_mut_slice());
+    let mut queue = Queue::new(&mut slots);
     let mut random = Random::new(5);
     for _ in 0..n {
         let value = random.next();
-        queue.put(Counted {
+        let number = Counted {
             value,
             count: &count,
-        });
+        };
+        queue.put(number).unwrap();
     }
     let puts = count.get();
-    while let Some(_) = queue.take() {}
+    while queue.take().is_some() {}
     let takes = count.get().wrapping_sub(puts);
     Ok(Comparisons {
         elements: n,

@@ -6,30 +6,29 @@ use queue::{Queue, Ranked};
 
 fn fill<T: Ranked + Sample>(queue: &mut Queue<'_, T>, n: usize, seed: u64) -> Sums {
     let mut random = Random::new(seed);
-    let mut put = Sums::new();
+    let mut put = Sums::default();
     for _ in 0..n {
         let x = T::sample(&mut random);
-        if queue.put(x) {
+        if queue.put(x).is_ok() {
             put.add(x.digest());
         }
     }
     put
 }
 
-fn drain<T: Ranked + Sample>(queue: &mut Queue<'_, T>, taken: &mut Sums) -> u64 {
-    let mut wrong: u64 = 0;
-    let Some(mut last) = queue.take() else {
-        return wrong;
-    };
-    taken.add(last.digest());
+/// Takes all out; wrong is each that is below the one before.
+fn drain<T: Ranked + Sample>(queue: &mut Queue<'_, T>, tally: &mut Tally) -> Sums {
+    let mut taken = Sums::default();
+    let mut last = None;
     while let Some(x) = queue.take() {
-        if x.less(&last) {
-            wrong = wrong.wrapping_add(1);
+        if last.is_some_and(|before: T| x.less(&before)) {
+            tally.add_wrong();
         }
+        tally.add_take();
         taken.add(x.digest());
-        last = x;
+        last = Some(x);
     }
-    wrong
+    taken
 }
 
 /// Puts in as many seeded elements as there are slots, and takes all out.
@@ -37,14 +36,13 @@ pub(crate) fn fill_and_drain<T: Ranked + Sample>(slots: &mut [T], seed: u64) -> 
     let n = slots.len();
     let mut queue = Queue::new(slots);
     let put = fill(&mut queue, n, seed);
-    let mut taken = Sums::new();
-    let mut wrong = drain(&mut queue, &mut taken);
-    if put != taken || !queue.is_empty() {
-        wrong = wrong.wrapping_add(1);
-    }
-    Tally {
+    let mut tally = Tally {
         puts: put.count(),
-        takes: taken.count(),
-        wrong,
+        ..Tally::default()
+    };
+    let taken = drain(&mut queue, &mut tally);
+    if put != taken || !queue.is_empty() {
+        tally.add_wrong();
     }
+    tally
 }

@@ -18,7 +18,9 @@ use costs::{Amount, Money};
 use drain::fill_and_drain;
 use frontier::Entry;
 use mixed::mix;
+use queue::Ranked;
 use refuse::fill_up;
+use sample::Sample;
 use std::alloc::Global;
 use std::env;
 
@@ -27,39 +29,26 @@ const FEW: usize = 1000;
 
 /// The program's argument, or some hundreds.
 fn elements(rt: &HostRuntime) -> anyhow::Result<usize> {
-    let mut args = env::args(rt)?;
-    args.next();
-    match args.next() {
-        Some(text) => Ok(text.as_str().parse::<usize>()?),
+    match env::args(rt)?.nth(1) {
+        Some(text) => Ok(text.parse::<usize>()?),
         None => Ok(600),
     }
 }
 
-fn plain(rt: &HostRuntime, heap: Global, n: usize) -> anyhow::Result<()> {
-    let mut slots = vec![in heap; 0u32; n]?;
-    let few = mix(heap, slots.as_mut_slice(), n.min(FEW), 1)?;
-    println!(rt; "plain numbers, mixed: {few}")?;
-    let all = fill_and_drain(slots.as_mut_slice(), 2);
-    println!(rt; "plain numbers, drained: {all}")?;
-    Ok(())
-}
-
-fn entries(rt: &HostRuntime, heap: Global, n: usize) -> anyhow::Result<()> {
-    let blank = Entry {
-        amount: Money { units: 0 },
-        node: 0,
-    };
+/// Mixes puts and takes of one kind of elements, and then drains a full queue of them.
+fn run_kind<T: Ranked + Sample>(
+    rt: &HostRuntime,
+    heap: Global,
+    name: &str,
+    blank: T,
+    n: usize,
+    seeds: (u64, u64),
+) -> anyhow::Result<()> {
     let mut slots = vec![in heap; blank; n]?;
-    let few = mix(heap, slots.as_mut_slice(), n.min(FEW), 3)?;
-    println!(rt; "frontier entries, mixed: {few}")?;
-    let all = fill_and_drain(slots.as_mut_slice(), 4);
-    println!(rt; "frontier entries, drained: {all}")?;
-    Ok(())
-}
-
-fn comparisons_of(rt: &HostRuntime, heap: Global, n: usize) -> anyhow::Result<()> {
-    let counts = count_comparisons(heap, n)?;
-    println!(rt; "comparisons: {counts}")?;
+    let few = mix(heap, &mut slots, n.min(FEW), seeds.0)?;
+    println!(rt; "{name}, mixed: {few}")?;
+    let all = fill_and_drain(&mut slots, seeds.1);
+    println!(rt; "{name}, drained: {all}")?;
     Ok(())
 }
 
@@ -67,13 +56,19 @@ fn run(rt: &HostRuntime) -> anyhow::Result<()> {
     let heap = rt.alloc();
     let n = elements(rt)?;
     println!(rt; "elements: {n}")?;
-    plain(rt, heap, n)?;
-    entries(rt, heap, n)?;
+    run_kind(rt, heap, "plain numbers", 0u32, n, (1, 2))?;
+    let blank = Entry {
+        amount: Money { units: 0 },
+        node: 0,
+    };
+    run_kind(rt, heap, "frontier entries", blank, n, (3, 4))?;
     let refusals = fill_up(heap, n.min(FEW))?;
     println!(rt; "a full queue: {refusals}")?;
     let distinct = check_distinct(heap, n.min(FEW))?;
     println!(rt; "distinct numbers: {distinct}")?;
-    comparisons_of(rt, heap, n)
+    let counts = count_comparisons(heap, n)?;
+    println!(rt; "comparisons: {counts}")?;
+    Ok(())
 }
 
 fn main(rt: HostRuntime) -> anyhow::Result<()> {

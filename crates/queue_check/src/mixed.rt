@@ -7,20 +7,14 @@ use std::alloc::{AllocError, Global};
 
 /// Takes x out of the list; false if it is not there, or something there is below it.
 fn leaves<T: Ranked + Sample>(listed: &mut Vec<T>, x: T) -> bool {
-    let mut place = listed.len();
-    for (i, y) in listed.iter().enumerate() {
-        if y.less(&x) {
-            return false;
-        }
-        if y.digest() == x.digest() {
-            place = i;
-        }
+    if listed.iter().any(|y| y.less(&x)) {
+        return false;
     }
-    if place < listed.len() {
-        listed.swap_remove(place);
-        return true;
-    }
-    false
+    let Some(place) = listed.iter().position(|y| *y == x) else {
+        return false;
+    };
+    listed.swap_remove(place);
+    true
 }
 
 /// Puts and takes in a seeded order; wrong is each take that disagrees with the list.
@@ -33,25 +27,21 @@ pub(crate) fn mix<T: Ranked + Sample>(
     let mut random = Random::new(seed);
     let mut queue = Queue::new(slots);
     let mut listed = Vec::new(heap);
-    let mut tally = Tally {
-        puts: 0,
-        takes: 0,
-        wrong: 0,
-    };
+    let mut tally = Tally::default();
     for _ in 0..steps {
         if random.next() % 3 < 2 {
             let x = T::sample(&mut random);
-            if queue.put(x) {
+            if queue.put(x).is_ok() {
                 listed.push(x)?;
-                tally.puts = tally.puts.wrapping_add(1);
+                tally.add_put();
             }
         } else if let Some(x) = queue.take() {
-            tally.takes = tally.takes.wrapping_add(1);
+            tally.add_take();
             if !leaves(&mut listed, x) {
-                tally.wrong = tally.wrong.wrapping_add(1);
+                tally.add_wrong();
             }
         } else if !listed.is_empty() {
-            tally.wrong = tally.wrong.wrapping_add(1);
+            tally.add_wrong();
         }
     }
     Ok(tally)

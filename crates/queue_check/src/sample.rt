@@ -4,7 +4,7 @@ use costs::Money;
 use frontier::Entry;
 
 /// Elements that can be seeded.
-pub trait Sample: Copy {
+pub trait Sample: Copy + PartialEq {
     /// A seeded element.
     fn sample(random: &mut Random) -> Self;
 
