@@ -28,7 +28,7 @@ present_point g n e h =
     ap (λ b. cond b (Some (grid_point g n)) None) (lt-ltb n (node_total g.lattice) h) in
     let z : ◌≡◌ {A = ℕ} 0 1 = cc in omega arith
 
-pub point_in_reach : {K P : Type 0} (g : Grid K P) (n : ℕ) → n < node_total g.lattice → InReach (grid_point g n)
+point_in_reach : {K P : Type 0} (g : Grid K P) (n : ℕ) → n < node_total g.lattice → InReach (grid_point g n)
 point_in_reach g n h =
     let o = crossing_on g.lattice n h in
     record {
@@ -37,6 +37,9 @@ point_in_reach g n h =
       right = g.near (crossing_at g.lattice n).column;
       top = g.close (crossing_at g.lattice n).row;
     }
+
+pub known_in_reach : {K P : Type 0} (g : Grid K P) (n : ℕ) (p : Point) → Some p ≡ grid_points g n → InReach p
+known_in_reach g n p e = let k = known_point g n p e in subst InReach (sym k.1) (point_in_reach g n k.0)
 
 -- neighbours adjoin
 

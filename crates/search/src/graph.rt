@@ -26,10 +26,7 @@ impl<'a, K: CostKind, P: Pieces> Graph<K::Amount> for Grid<'a, K, P> {
     }
 
     fn is_free(&self, node: u32, neighbour: u32) -> bool {
-        let Some(p) = self.point(node) else {
-            return false;
-        };
-        let Some(q) = self.point(neighbour) else {
+        let (Some(p), Some(q)) = (self.point(node), self.point(neighbour)) else {
             return false;
         };
         self.may_move(&p, &q)

@@ -20,13 +20,11 @@ impl<'a, K, P> Grid<'a, K, P> {
     {
         let column = position(self.xs, p.x)?;
         let row = position(self.ys, p.y)?;
-        if p.layer == 0 {
-            return None;
-        }
+        let level = p.layer.checked_sub(1)?;
         self.lattice.node(&Crossing {
             column: column as u32,
             row: row as u32,
-            level: p.layer - 1,
+            level,
         })
     }
 }

@@ -1,7 +1,6 @@
-use Rattle.std.proofs.Common.{sym, subst}
-use Rattle.search.specs.Grids.{InReach}
+use Rattle.std.proofs.Common.{sym}
 use Rattle.search.specs.Lattices.{next_inside}
-use Rattle.search.proofs.Points.{known_point, present_point, point_in_reach}
+use Rattle.search.proofs.Points.{present_point, known_in_reach}
 use Rattle.search.proofs.graph.GridGraphAmount.toward.Goals as goal
 
 pub returns-in_err-q : goal.returns-in_err-q
@@ -11,10 +10,7 @@ returns-in_err-q g c h six =
     absurd (present_point grid c.in_ok-next.next c.in_err-q.ensures inside)
 
 pub price-requires : goal.price-requires
-price-requires g c =
-    let grid = c.args.self.now in
-    let p = known_point grid c.args.node c.in_ok-p.p c.in_ok-p.ensures in
-    let q = known_point grid c.in_ok-next.next c.in_ok-q.q c.in_ok-q.ensures in (
-      subst InReach (sym p.1) (point_in_reach grid c.args.node p.0),
-      subst InReach (sym q.1) (point_in_reach grid c.in_ok-next.next q.0),
-    )
+price-requires g c = (
+  known_in_reach c.args.self.now c.args.node c.in_ok-p.p c.in_ok-p.ensures,
+  known_in_reach c.args.self.now c.in_ok-next.next c.in_ok-q.q c.in_ok-q.ensures,
+)
