@@ -21,7 +21,7 @@ use Rattle.routes.proofs.Listed.{mem_distinct}
 use Rattle.search.specs.declared.lines.Undrawn.TheVariants.{TooManyLines}
 use Rattle.search.specs.Lattices.{T_true}
 use Rattle.search.specs.Located.{AtPlace}
-use Rattle.search.specs.Drawing.{ToldLines, ToldDrawn}
+use Rattle.search.specs.Drawing.{short_lists, ToldLines, ToldDrawn}
 
 -- membership by a test and by a place
 
@@ -124,6 +124,10 @@ too_many xs m =
     λ v h. sym (mem_member v (distinct xs)) ∙ T_true _ (mem_distinct v xs
     (has_mem v xs (mem_has_all (Has xs) m.some v m.among (T_from_true _ (mem_member v m.some ∙ h))))) in
     omega (arith, m.count, length-le_from_is_member nat_eq_equiv m.some (distinct xs) (climbs_once m.some m.climbs) among)
+
+-- where no list is too short
+pub lines_long : (m j k : ℕ) → false ≡ short_lists m j k → 1024 ≤ k
+lines_long m j k e = grind (arith, e)
 
 -- what is drawn where the coordinates of the lines were put into an empty queue
 module _ (xs ws old out : List ℕ) (put : IsPermutation xs ws) (long : 1024 ≤ length old) (kept : 1024 ≤ length out) where

@@ -7,7 +7,7 @@
 --     many_lines q ps           there are more than 1,024 lines on an axis
 --     request_nodes q ps        how many nodes there are
 --     nodes_short n j k         the list of notes or the frontier's is too short for n nodes
-use Rattle.std.specs.Prelude.{ℕ, ◌+◌, ◌*◌, Bool, ◌&&◌, ◌||◌, List, length, nat_le, nat_lt}
+use Rattle.std.specs.Prelude.{ℕ, ◌+◌, ◌*◌, min, Bool, ◌&&◌, ◌||◌, List, length, nat_le, nat_lt}
 use Rattle.geometry.specs.declared.axis.Axis.{Axis}
 use Rattle.geometry.specs.declared.axis.Axis.TheVariants.{X, Y}
 use Rattle.geometry.specs.declared.piece.Piece.{Piece}
@@ -20,6 +20,7 @@ use Rattle.routes.specs.Rules.{rules_of}
 use Rattle.search.specs.declared.request.Extent.{Extent}
 use Rattle.search.specs.declared.request.Request.{Request}
 use Rattle.search.specs.Axes.{extent_lines}
+use Rattle.search.specs.Drawing.{short_lists}
 
 abbrev pub sized : Request → Bool
 sized q = nat_le q.size.width 60000 && (nat_le q.size.height 60000 && nat_le q.size.layers 8)
@@ -49,7 +50,7 @@ abbrev pub request_lines : Request → Axis → List Piece → List ℕ
 request_lines q a pieces = extent_lines (extent q a) pieces
 
 abbrev pub lists_short : ℕ → ℕ → ℕ → ℕ → Bool
-lists_short m coordinates xs ys = nat_lt coordinates (4 * m + 2) || (nat_lt xs 1024 || nat_lt ys 1024)
+lists_short m coordinates xs ys = short_lists m coordinates (min xs ys)
 
 abbrev pub many_lines : Request → List Piece → Bool
 many_lines q pieces = nat_lt 1024 (length (request_lines q X pieces)) || nat_lt 1024 (length (request_lines q Y pieces))

@@ -1,11 +1,11 @@
 // The grid of a request, drawn into lent lists.
-ghost use Rattle.std.specs.Prelude.{◌≡◌, ◌≤◌, T, false, length};
+ghost use Rattle.std.specs.Prelude.{◌≡◌, T, false, length};
 ghost use Rattle.search.specs.Drawing.{short_lists};
 ghost use Rattle.search.specs.Told.{ToldLattice, ToldAxis, is_early};
-ghost use Rattle.search.specs.Requests.{proper, sized, lists_short, extent, request_lines};
+ghost use Rattle.search.specs.Requests.{proper, sized, extent, request_lines};
 
 use crate::lattice::Lattice;
-use crate::lines::{LINES, draw_lines};
+use crate::lines::{are_short, draw_lines};
 use crate::request::{Extent, LAYERS, Refusal, Request, SIDE};
 use geometry::Axis;
 use registers::Pieces;
@@ -44,14 +44,6 @@ impl Request {
     }
 }
 
-/// Whether the list of coordinates or one of the lists of lines is too short, where `m` pieces stand.
-fn too_short(m: usize, coordinates: usize, xs: usize, ys: usize) -> bool
-    requires { m ≤ 4096 }
-    ensures { result ≡ lists_short m coordinates xs ys }
-{
-    coordinates < 4 * m + 2 || xs < LINES || ys < LINES
-}
-
 /// Draws the lines of a request along an axis into the front of `lines`, and answers how many they are.
 fn draw_axis<P: Pieces>(
     request: &Request,
@@ -84,7 +76,7 @@ pub(crate) fn draw_lattice<P: Pieces>(
         return Err(Refusal::Improper);
     }
     let m = register.count();
-    if too_short(m, coordinates.len(), xs.len(), ys.len()) {
+    if are_short(m, coordinates.len(), xs.len().min(ys.len())) {
         return Err(Refusal::ShortLists(4 * m + 2));
     }
     let columns = draw_axis(request, Axis::X, register, coordinates, xs)?;

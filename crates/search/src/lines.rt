@@ -1,5 +1,5 @@
 // The lines of a request along one axis, drawn from its terminals and the zones of the pieces that stand.
-ghost use Rattle.std.specs.Prelude.{◌≡◌, ◌+◌, ◌*◌, T, [], ◌∷◌, length};
+ghost use Rattle.std.specs.Prelude.{◌≡◌, ◌+◌, ◌*◌, ◌≤◌, T, [], ◌∷◌, length};
 ghost use Rattle.std.specs.Option.{option_to_list};
 ghost use Rattle.routes.specs.Lines.{on_panel};
 ghost use Rattle.search.specs.Axes.{extent_coordinates, extent_lines};
@@ -83,6 +83,14 @@ pub enum Undrawn {
     TooManyLines,
 }
 
+/// Whether the list of coordinates or that of lines is too short, where `m` pieces stand.
+pub(crate) fn are_short(m: usize, coordinates: usize, lines: usize) -> bool
+    requires { m ≤ 4096 }
+    ensures { result ≡ short_lists m coordinates lines }
+{
+    coordinates < 4 * m + 2 || lines < LINES
+}
+
 /// Writes the lines of a request along one axis to the front of `lines`, ascending and each once, by way of `coordinates`,
 /// and answers how many they are.
 pub fn draw_lines<P: Pieces>(
@@ -95,7 +103,7 @@ pub fn draw_lines<P: Pieces>(
     ensures lines { ToldDrawn (extent_lines extent.now (P.pieces register.now)) lines.new result }
     ensures unchanged { T (is_short result) → (coordinates.new ≡ coordinates.old) × (lines.new ≡ lines.old) }
 {
-    if coordinates.len() < 4 * register.count() + 2 || lines.len() < LINES {
+    if are_short(register.count(), coordinates.len(), lines.len()) {
         return Err(Undrawn::ShortLists);
     }
     let mut queue = Queue::new(coordinates);
