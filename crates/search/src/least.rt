@@ -34,10 +34,10 @@ impl<'a, K: CostKind, P: Pieces> Grid<'a, K, P> {
         if nodes_short(n, nodes.len(), frontier.len()) {
             return Err(Refusal::ShortNodes(n));
         }
-        let Some(from) = self.node(&self.request.first) else {
-            return Ok(None);
-        };
-        let Some(to) = self.node(&self.request.second) else {
+        let (Some(from), Some(to)) = (
+            self.node(&self.request.first),
+            self.node(&self.request.second),
+        ) else {
             return Ok(None);
         };
         Ok(find_least(self, from, to, nodes, frontier).unwrap())
