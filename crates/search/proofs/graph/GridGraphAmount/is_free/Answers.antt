@@ -1,4 +1,3 @@
-use Rattle.std.proofs.Common.{sym}
 use Rattle.search.specs.Grids.{grid_rules, grid_point}
 use Rattle.search.specs.Lattices.{next_inside}
 use Rattle.search.proofs.Points.{known_point, present_point, known_in_reach, next_adjoins, free_known}
