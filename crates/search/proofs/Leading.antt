@@ -1,7 +1,12 @@
 -- The way that the notes of a search lead back, turned round, visits no point twice. Assumes nothing.
-use Rattle.std.proofs.Common.{◌≡◌, ℕ, ◌<◌, not, ◌&&◌, T, eqb, List, [], ◌∷◌, map, sym, ap, inl, inr, eqb→eq}
+use Rattle.std.proofs.Common.{◌≡◌, ℕ, ◌<◌, not, ◌&&◌, T, false, eqb, List, [], ◌∷◌, map, reverse, sym, ap, inl, inr, eqb→eq, ne_eqb}
 use mathlib.Core.List.{reverse_aux}
-use Rattle.std.specs.List.{AllByRecursion}
+use borrow.Author.Tests.{eqb-false}
+use Rattle.std.specs.Cmp.{nat_eq_equiv}
+use Rattle.std.specs.List.{AllByRecursion, IsDistinct}
+use Rattle.std.proofs.ByRecursion.{All-weaker}
+use Rattle.std.proofs.lemmas.List.Sorted.{IsPermutation-reverse}
+use Rattle.std.proofs.lemmas.Map.Keys.{IsDistinct-IsPermutation}
 use Rattle.frontier.specs.Front.{Mark, Trail}
 use Rattle.frontier.specs.Routes.{Search}
 use Rattle.frontier.proofs.Trails.{turned}
@@ -10,33 +15,18 @@ use Rattle.geometry.specs.Lists.{any_of}
 use Rattle.routes.specs.Turns.{same_point, none_twice}
 use Rattle.routes.proofs.Bools.{left, right, both, either, refute}
 
--- numbers, each once
-
-abbrev pub Apart : List ℕ → Type 0
-Apart [] = Unit {0}
-Apart (n ∷ ns) = AllByRecursion (λ x. x ≡ n → ⊥) ns × Apart ns
-
-abbrev pub Cross : List ℕ → List ℕ → Type 0
-Cross ns ms = AllByRecursion (λ n. AllByRecursion (λ x. x ≡ n → ⊥) ms) ns
-
-cross_more : (u : ℕ) (ns ms : List ℕ) → AllByRecursion (λ x. x ≡ u → ⊥) ns → Cross ns ms → Cross ns (u ∷ ms)
-cross_more u [] ms a c = tt
-cross_more u (n ∷ ns) ms a c = (((λ e. a.0 (sym e)), c.0), cross_more u ns ms a.1 c.1)
-
-pub apart_turned : (back : List ℕ) (u : ℕ) (after : List ℕ) → Apart (u ∷ back) → Apart after → Cross (u ∷ back) after
-    → Apart (reverse_aux back (u ∷ after))
-apart_turned [] u after a b c = (c.0, b)
-apart_turned (p ∷ back) u after a b c =
-    apart_turned back p (u ∷ after) a.1 (c.0, b) (cross_more u (p ∷ back) after a.0 c.1)
-
-pub no_cross : (ns : List ℕ) → Cross ns []
-no_cross [] = tt
-no_cross (n ∷ ns) = (tt, no_cross ns)
-
 module _ {M : Type 0} (g : Search M) (f : ℕ → Mark M) where
-  pub trail_apart : (back : List ℕ) (u : ℕ) (a : M) → Trail g f u back a → Apart (u ∷ back)
+  pub trail_apart : (back : List ℕ) (u : ℕ) (a : M) → Trail g f u back a → IsDistinct eqb (u ∷ back)
+  unfolding IsDistinct
   trail_apart [] u a r = (tt, tt)
-  trail_apart (p ∷ back) u a r = (r.6, trail_apart back p r.0 r.3)
+  trail_apart (p ∷ back) u a r = (
+    All-weaker (λ x. x ≡ u → ⊥) (λ x. eqb u x ≡ false) (λ x h. ne_eqb u x (λ e. h (sym e))) (p ∷ back) r.6,
+    trail_apart back p r.0 r.3,
+  )
+
+  pub turned_apart : (back : List ℕ) (u : ℕ) (a : M) → Trail g f u back a → IsDistinct eqb (reverse (u ∷ back))
+  turned_apart back u a r =
+      IsDistinct-IsPermutation eqb nat_eq_equiv.symm (u ∷ back) (reverse (u ∷ back)) (IsPermutation-reverse (u ∷ back)) (trail_apart back u a r)
 
   -- turned round, the way begins at the start
   pub trail_turned : (back : List ℕ) (u : ℕ) (a : M) (after : List ℕ) → Trail g f u back a
@@ -57,15 +47,16 @@ same_says p q h =
     λ i. record { layer = layer i; x = x i; y = y i }
 
 module _ (pt : ℕ → Point) (size : ℕ) (one : (u w : ℕ) → u < size → w < size → pt u ≡ pt w → u ≡ w) where
-  nowhere : (n : ℕ) (ns : List ℕ) → n < size → AllByRecursion (λ v. v < size) ns → AllByRecursion (λ x. x ≡ n → ⊥) ns
+  nowhere : (n : ℕ) (ns : List ℕ) → n < size → AllByRecursion (λ v. v < size) ns → AllByRecursion (λ x. eqb n x ≡ false) ns
       → T (any_of (same_point (pt n)) (map pt ns)) → ⊥
   nowhere n [] h a b t = t
   nowhere n (m ∷ ns) h a b t = elim (either (same_point (pt n) (pt m)) (any_of (same_point (pt n)) (map pt ns)) t) [
-    | inl e ↦ b.0 (one m n a.0 h (sym (same_says (pt n) (pt m) e)))
+    | inl e ↦ eqb-false n m b.0 (one n m h a.0 (same_says (pt n) (pt m) e))
     | inr r ↦ nowhere n ns h a.1 b.1 r
   ]
 
-  pub points_apart : (ns : List ℕ) → AllByRecursion (λ v. v < size) ns → Apart ns → T (none_twice (map pt ns))
+  pub points_apart : (ns : List ℕ) → AllByRecursion (λ v. v < size) ns → IsDistinct eqb ns → T (none_twice (map pt ns))
+  unfolding IsDistinct
   points_apart [] a b = tt
   points_apart (n ∷ ns) a b =
       both (not (any_of (same_point (pt n)) (map pt ns))) (none_twice (map pt ns))

@@ -1,6 +1,7 @@
 -- The least cost along the lines of a request is the least cost of its paths. Assumes nothing.
 use Rattle.std.proofs.Common.{◌≡◌, ℕ, zero, suc, ◌*◌, ◌<◌, ◌≤◌, Bool, false, ◌&&◌, T, eqb, leb, List, [], ◌∷◌, map, reverse, length, get_or, Some, None, Ok, Option, MatchOption, IfSome, sym, refl, ap, ◌∙◌, subst, inl, inr, arith, leb→le}
 use lib.Dec.{eqb_refl}
+use Rattle.std.specs.List.{IsDistinct}
 use Rattle.std.proofs.lemmas.Bool.{cases_lt}
 use Rattle.costs.specs.Amounts.{Sums, Laws, Prices, Tariff, tariff}
 use Rattle.frontier.specs.declared.note.Note.{Note}
@@ -34,7 +35,7 @@ use Rattle.search.specs.Nodes.{node_total}
 use Rattle.search.specs.Requests.{proper, sized, side, extent, request_rules, request_lines, request_nodes, nodes_short}
 use Rattle.search.specs.Told.{GridOf, LeastPath, Led, ToldPath, LedBack}
 use Rattle.search.proofs.Counting.{place_mem, mem_place}
-use Rattle.search.proofs.Leading.{Apart, apart_turned, no_cross, trail_apart, trail_turned, points_apart}
+use Rattle.search.proofs.Leading.{turned_apart, trail_turned, points_apart}
 use Rattle.search.proofs.Following.{Ruled, S, point_inside, same_node, Followed, follow, trace_back}
 
 -- lines lie where those of the request lie
@@ -188,8 +189,7 @@ module _ {K P C M : Type 0} (ps : List Piece) (g : Grid K P) (is_proper : T (pro
       let turn : all ≡ from ∷ nodes = trail_turned graph f back to a [] traced.trail in
       let way = follow g ruled ps prices sums means from from nodes to a from_at.inside (trail_route graph laws f back to a traced.trail) in
       let are : way.moves ≡ joins (map (grid_point g) all) = way.are ∙ ap (λ ns. joins (map (grid_point g) ns)) (sym turn) in
-      let apart : Apart (from ∷ nodes) =
-      subst Apart turn (apart_turned back to [] (trail_apart graph f back to a traced.trail) tt (no_cross (to ∷ back))) in
+      let apart = subst (IsDistinct eqb) turn (turned_apart graph f back to a traced.trail) in
       let once : T (none_twice (map (grid_point g) (from ∷ nodes))) =
       points_apart (grid_point g) (node_total g.lattice) (same_node g ruled) (from ∷ nodes) (from_at.inside, way.stay) apart in
       let path : LinePath tf R X' Y' s t way.moves = record {
