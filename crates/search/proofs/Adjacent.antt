@@ -9,7 +9,7 @@ use Rattle.routes.proofs.Bools.{left, right, both, either, refute, refuted}
 use Rattle.routes.proofs.Listed.{all_of_from, mem_in}
 use Rattle.search.proofs.Counting.{mem_place, place_mem}
 
-all_mem : (test : ℕ → Bool) (ns : List ℕ) (n : ℕ) → T (all_of test ns) → T (mem n ns) → T (test n)
+pub all_mem : (test : ℕ → Bool) (ns : List ℕ) (n : ℕ) → T (all_of test ns) → T (mem n ns) → T (test n)
 all_mem test [] n h k = absurd k
 all_mem test (m ∷ ns) n h k = elim (either (eqb n m) (mem n ns) k) [
   | inl e ↦ subst (λ v. T (test v)) (sym (eqb→eq n m e)) (left (test m) (all_of test ns) h)

@@ -1,8 +1,9 @@
 -- The least cost along the lines of a request is the least cost of its paths. Assumes nothing.
-use Rattle.std.proofs.Common.{◌≡◌, ℕ, zero, suc, ◌*◌, ◌<◌, ◌≤◌, Bool, false, ◌&&◌, T, eqb, leb, List, [], ◌∷◌, map, reverse, length, get_or, Some, None, Ok, Option, MatchOption, IfSome, sym, refl, ap, ◌∙◌, subst, inl, inr, arith, leb→le}
+use Rattle.std.proofs.Common.{◌≡◌, ℕ, ◌*◌, ◌≤◌, false, ◌&&◌, T, eqb, leb, List, [], ◌∷◌, map, reverse, length, get_or, Some, None, Ok, Option, MatchOption, IfSome, sym, refl, ap, ◌∙◌, subst, inl, inr, arith, leb→le}
 use lib.Dec.{eqb_refl}
 use Rattle.std.specs.List.{IsDistinct}
 use Rattle.std.proofs.lemmas.Bool.{cases_lt}
+use Rattle.std.proofs.Math.ListN.{get_or-eq_default}
 use Rattle.costs.specs.Amounts.{Sums, Laws, Prices, Tariff, tariff}
 use Rattle.frontier.specs.declared.note.Note.{Note}
 use Rattle.frontier.specs.Held.{marks, Traced}
@@ -34,32 +35,20 @@ use Rattle.search.specs.Grids.{grid_point, grid_rules, joins}
 use Rattle.search.specs.Nodes.{node_total}
 use Rattle.search.specs.Requests.{proper, sized, side, extent, request_rules, request_lines, request_nodes, nodes_short}
 use Rattle.search.specs.Told.{GridOf, LeastPath, Led, ToldPath, LedBack}
-use Rattle.search.proofs.Counting.{place_mem, mem_place}
+use Rattle.search.proofs.Adjacent.{all_mem}
+use Rattle.search.proofs.Counting.{place_mem}
 use Rattle.search.proofs.Leading.{turned_apart, trail_turned, points_apart}
 use Rattle.search.proofs.Following.{Ruled, S, point_inside, same_node, Followed, follow, trace_back}
 
 -- lines lie where those of the request lie
-
-past : (xs : List ℕ) (i : ℕ) → length xs ≤ i → get_or xs i 0 ≡ 0
-past [] i h = refl
-past (x ∷ xs) zero h = absurd (omega arith)
-past (x ∷ xs) (suc i) h = past xs i (omega arith)
-
-test_says : (test : ℕ → Bool) (ns : List ℕ) (n : ℕ) → T (all_of test ns) → T (mem n ns) → T (test n)
-test_says test ns n h m = go ns h (mem_place n ns m)
-  where
-    go : (ns : List ℕ) → T (all_of test ns) → (k : ℕ) × (k < length ns) × (get_or ns k 0 ≡ n) → T (test n)
-    go [] h p = absurd (omega (arith, p.1))
-    go (m ∷ ns) h (zero, l, e) = subst (λ v. T (test v)) e (left (test m) (all_of test ns) h)
-    go (m ∷ ns) h (suc k, l, e) = go ns (right (test m) (all_of test ns) h) (k, omega arith, e)
 
 pub lines_below : (ls found : List ℕ) (size : ℕ) → ((v : ℕ) → mem v found ≡ mem v ls) → T (all_of (λ n. leb n size) ls)
     → (i : ℕ) → get_or found i 0 ≤ size
 lines_below ls found size same on i = elim (cases_lt i (length found)) [
   | inl h ↦
       let v = get_or found i 0 in
-      leb→le v size (test_says (λ n. leb n size) ls v on (subst T (same v) (place_mem v found i h refl)))
-  | inr h ↦ omega (arith, past found i h)
+      leb→le v size (all_mem (λ n. leb n size) ls v on (subst T (same v) (place_mem v found i h refl)))
+  | inr h ↦ omega (arith, get_or-eq_default found 0 h)
 ]
 
 all_among : (ls found : List ℕ) → ((v : ℕ) → mem v found ≡ mem v ls) → T (among ls found)

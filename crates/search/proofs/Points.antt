@@ -43,11 +43,8 @@ known_in_reach g n p e = let k = known_point g n p e in subst InReach (sym k.1) 
 
 -- neighbours adjoin
 
-differ : (a b : ℕ) → a ≡ b → eqb a b ≡ false → ⊥
-differ a b e f = eqb-false a b f e
-
 in_line : (p q : Point) → p.layer ≡ q.layer → (eqb p.y q.y ≡ false → p.x ≡ q.x) → Adjoin p q
-in_line p q e f = record { wire = λ _. f; via = λ h. absurd (differ p.layer q.layer e h) }
+in_line p q e f = record { wire = λ _. f; via = λ h. absurd (eqb-false p.layer q.layer h e) }
 
 stacked : (p q : Point) → eqb (gap p.layer q.layer) 1 ≡ true → Adjoin p q
 stacked p q h = record {
@@ -59,7 +56,7 @@ stacked p q h = record {
 pub beside_adjoins : (l : Lattice) (X Y : List ℕ) (w : Way) (c d : Crossing) → On l c → Some d ≡ beside l w c
     → Adjoin (place X Y c) (place X Y d)
 beside_adjoins l X Y w c d o e = elim (beside_moved l w c d o e) [
-  | inl m ↦ subst (λ v. Adjoin (place X Y c) (place X Y v)) (sym m.2) (in_line _ _ refl (λ f. absurd (differ _ _ refl f)))
+  | inl m ↦ subst (λ v. Adjoin (place X Y c) (place X Y v)) (sym m.2) (in_line _ _ refl (λ f. absurd (eqb-false _ _ f refl)))
   | inr side ↦ elim side [
     | inl m ↦ subst (λ v. Adjoin (place X Y c) (place X Y v)) (sym m.2) (in_line _ _ refl (λ f. refl))
     | inr m ↦ subst (λ v. Adjoin (place X Y c) (place X Y v)) (sym m.2)
