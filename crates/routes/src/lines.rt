@@ -5,6 +5,7 @@ ghost use Rattle.routes.specs.Claims.{LinesLieOnThePanel, LinesAreFew};
 use costs::Amount;
 
 /// Every lawful path has a lawful route along enough lines that costs no more, for every kind of amount.
+#[tactic(auto, using(crate::proofs::Suffice::lines_suffice))]
 pub fn lines_suffice<C: Amount>()
     ensures { LinesSuffice C.sums }
 {}
@@ -15,16 +16,19 @@ pub fn least_on_lines_is_least<C: Amount>()
 {}
 
 /// Where no route along enough lines is lawful, no path is.
+#[tactic(auto, using(crate::proofs::Suffice::no_line_route_no_path))]
 pub fn no_line_route_no_path()
     ensures { NoLineRouteNoPath }
 {}
 
 /// The lines of a request are enough for it.
+#[tactic(auto, using(crate::proofs::Enough::own_lines_are_enough))]
 pub fn own_lines_are_enough()
     ensures { OwnLinesAreEnough }
 {}
 
 /// The lines of a request lie on the panel.
+#[tactic(auto, using(crate::proofs::Few::lines_lie_on_the_panel))]
 pub fn lines_lie_on_the_panel()
     ensures { LinesLieOnThePanel }
 {}

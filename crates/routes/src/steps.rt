@@ -14,6 +14,7 @@ pub fn line_routes_are_unit_routes<C: Amount>()
 {}
 
 /// A straight move is lawful exactly if its steps are.
+#[tactic(auto, using(crate::proofs::Paths::straight_runs))]
 pub fn straight_runs()
     ensures { StraightRuns }
 {}
