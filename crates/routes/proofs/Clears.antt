@@ -31,11 +31,11 @@ apart_moved_along h g s b k =
       | inl n ↦
           let n' : b.high ≤ℤ (s.low -ℤ pos (h + g)) = lt_z_no n in
           let r : ((b.high +ℤ pos h) +ℤ pos g) ≤ℤ s.low = omega (arith, ints) in
-          second under over r.le
+          second _ _ r.le
       | inr n ↦
           let n' : (s.high +ℤ pos (h + g)) ≤ℤ b.low = lt_z_no n in
           let r : (s.high +ℤ pos g) ≤ℤ (b.low -ℤ pos h) = omega (arith, ints) in
-          first under over r.le
+          first _ _ r.le
     ]
 
 apart_moved : (h g : ℕ) (r b : Rect) → T (not (meets (moved_out (h + g) r) b)) → T (apart g (moved_out h b) r)
@@ -43,8 +43,8 @@ apart_moved h g r b k =
     let by-x = apart_along g (widened h b.x) r.x in
     let by-y = apart_along g (widened h b.y) r.y in
     elim (not_both (crosses (widened (h + g) r.x) b.x) (crosses (widened (h + g) r.y) b.y) k) [
-      | inl n ↦ first by-x by-y (apart_moved_along h g r.x b.x n)
-      | inr n ↦ second by-x by-y (apart_moved_along h g r.y b.y n)
+      | inl n ↦ first _ _ (apart_moved_along h g r.x b.x n)
+      | inr n ↦ second _ _ (apart_moved_along h g r.y b.y n)
     ]
 
 if_counts : (l n m w : Bool) → (T (not m) → T w) → T (not (l && (n && m))) → T (not (l && n) || w)
@@ -79,10 +79,10 @@ via_keeps_clear width height layers c net pieces p l ok =
 
 -- lying apart goes both ways
 or_swap : (a b : Bool) → T (a || b) → T (b || a)
-or_swap a b h = elim (either a b h) [ inl k ↦ second b a k | inr k ↦ first b a k ]
+or_swap a b h = elim (either _ _ h) [ inl k ↦ second b a k | inr k ↦ first _ _ k ]
 
 or_both : (a b a' b' : Bool) → (T a → T a') → (T b → T b') → T (a || b) → T (a' || b')
-or_both a b a' b' f g h = elim (either a b h) [ inl k ↦ first a' b' (f k) | inr k ↦ second a' b' (g k) ]
+or_both a b a' b' f g h = elim (either _ _ h) [ inl k ↦ first _ _ (f k) | inr k ↦ second _ _ (g k) ]
 
 apart_swap : (g : ℕ) (r b : Rect) → T (apart g r b) → T (apart g b r)
 apart_swap g r b =
@@ -92,19 +92,17 @@ apart_swap g r b =
     (or_swap (le_z (b.y.high +ℤ pos g) r.y.low) (le_z (r.y.high +ℤ pos g) b.y.low))
 
 different_swap : (a b : ℕ) → T (different_nets a b) → T (different_nets b a)
-different_swap a b h =
-    refute (eqb b a && ltb 0 b) (λ k.
-    let same : b ≡ a = eqb→eq b a (left (eqb b a) (ltb 0 b) k) in
-    refuted (eqb a b && ltb 0 a) h
-    (both (eqb a b) (ltb 0 a) (subst (λ n. T (eqb a n)) (sym same) (eqb_refl a))
-    (subst (λ n. T (ltb 0 n)) same (right (eqb b a) (ltb 0 b) k))))
+different_swap a b h = refute _ (λ k.
+    let same : b ≡ a = eqb→eq _ _ (left _ _ k) in
+    refuted _ h (both _ _ (subst (λ n. T (eqb a n)) (sym same) (eqb_refl a))
+    (subst (λ n. T (ltb 0 n)) same (right _ _ k))))
 
 -- a clearance that is owed under less is kept under more
 owed : (l n d l' n' w w' : Bool) → (T l' → T l) → (T n' → T n) → (T w → T w') → T (not (l && n) || w)
     → T (not (l' && (n' && d)) || w')
-owed l n d true true w w' f g h k = elim (either (not (l && n)) w k) [
-  | inl off ↦ absurd (refuted (l && n) off (both l n (f tt) (g tt)))
-  | inr on ↦ second (not d) w' (h on)
+owed l n d true true w w' f g h k = elim (either _ _ k) [
+  | inl off ↦ absurd (refuted _ off (both _ _ (f tt) (g tt)))
+  | inr on ↦ second _ _ (h on)
 ]
 owed l n d true false w w' f g h k = tt
 owed l n d false n' w w' f g h k = tt
@@ -112,7 +110,7 @@ owed l n d false n' w w' f g h k = tt
 pub clear_pieces_keep_clear : ClearPiecesKeepClear
 clear_pieces_keep_clear a o h =
     let layers-swap : T (eqb a.layer o.layer) → T (eqb o.layer a.layer) =
-    λ k. subst (λ n. T (eqb n a.layer)) (eqb→eq a.layer o.layer k) (eqb_refl a.layer) in
+    λ k. subst (λ n. T (eqb n a.layer)) (eqb→eq _ _ k) (eqb_refl a.layer) in
     let apart-o-a : T (apart (max a.space o.space) a.rect o.rect) → T
     (apart (max o.space a.space) o.rect a.rect) =
     λ k. subst (λ d. T (apart d o.rect a.rect)) (omega arith)

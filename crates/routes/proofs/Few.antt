@@ -12,12 +12,11 @@ use Rattle.routes.proofs.Bools.{left, right, both}
 
 distinct_pass : (test : ℕ → Bool) (ns : List ℕ) → T (all_of test ns) → T (all_of test (distinct ns))
 distinct_pass test [] h = tt
-distinct_pass test (n ∷ ns) h =
-    pick (mem n ns) (left (test n) (all_of test ns) h) (distinct_pass test ns (right (test n) (all_of test ns) h))
+distinct_pass test (n ∷ ns) h = pick (mem n ns) (left _ _ h) (distinct_pass test ns (right _ _ h))
   where
     pick : (b : Bool) → T (test n) → T (all_of test (distinct ns)) → T (all_of test (cond b (distinct ns) (n ∷ distinct ns)))
     pick true h k = k
-    pick false h k = both (test n) (all_of test (distinct ns)) h k
+    pick false h k = both _ _ h k
 
 on_panel_pass : (size : ℕ) (zs : List ℤ) → T (all_of (λ n. leb n size) (on_panel size zs))
 on_panel_pass size [] = tt
@@ -25,16 +24,14 @@ on_panel_pass size (pos n ∷ zs) = pick (leb n size) (λ h. h) (on_panel_pass s
   where
     pick : (b : Bool) → (T b → T (leb n size)) → T (all_of (λ n. leb n size) (on_panel size zs))
         → T (all_of (λ n. leb n size) (cond b (n ∷ on_panel size zs) (on_panel size zs)))
-    pick true h k = both (leb n size) (all_of (λ n. leb n size) (on_panel size zs)) (h tt) k
+    pick true h k = both _ _ (h tt) k
     pick false h k = k
 on_panel_pass size (negsuc n ∷ zs) = on_panel_pass size zs
 
 pub lines_lie_on_the_panel : LinesLieOnThePanel
 lines_lie_on_the_panel axis size c net pieces a b ha hb =
     let borders-on = on_panel size (flat (borders axis c) (others net pieces)) in
-    distinct_pass (λ n. leb n size) (a ∷ b ∷ borders-on)
-    (both (leb a size) (leb b size && all_of (λ n. leb n size) borders-on) (le→leb a size ha)
-    (both (leb b size) (all_of (λ n. leb n size) borders-on) (le→leb b size hb)
+    distinct_pass (λ n. leb n size) (a ∷ b ∷ borders-on) (both _ _ (le→leb _ _ ha) (both _ _ (le→leb _ _ hb)
     (on_panel_pass size (flat (borders axis c) (others net pieces)))))
 
 distinct_fewer : (ns : List ℕ) → length (distinct ns) ≤ length ns

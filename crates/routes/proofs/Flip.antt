@@ -1,5 +1,7 @@
 -- The same panel and routes with x and y exchanged. Assumes nothing.
 use Rattle.std.proofs.Common.{◌≡◌, T, List, [], ◌∷◌, refl, ap}
+use Rattle.geometry.specs.declared.axis.Axis.{Axis}
+use Rattle.geometry.specs.declared.axis.Axis.TheVariants.{X, Y}
 use Rattle.geometry.specs.declared.point.Point.{Point}
 use Rattle.geometry.specs.declared.rect.Rect.{Rect}
 use Rattle.costs.specs.Amounts.{Tariff}
@@ -13,6 +15,11 @@ flip_point p = record { layer = p.layer; x = p.y; y = p.x }
 
 abbrev pub flip_rect : Rect → Rect
 flip_rect r = record { x = r.y; y = r.x }
+
+-- as it is along x, exchanged along y
+abbrev pub turn : Axis → Rect → Rect
+turn X r = r
+turn Y r = flip_rect r
 
 abbrev pub flip_rules : Rules → Rules
 flip_rules R = record {

@@ -38,42 +38,35 @@ in_append x (v ∷ xs) ys (inr i) = elim (in_append x xs ys i) [ inl h ↦ inl (
 one_net_clear : (net : ℕ) (a b : Piece) → T (ltb 0 net) → a.net ≡ net → b.net ≡ net → T (keep_clear a b)
 one_net_clear net a b real ea eb =
     let same : T (different_nets a.net b.net) → ⊥ =
-    λ h. refuted (eqb a.net b.net && ltb 0 a.net) h
-    (both (eqb a.net b.net) (ltb 0 a.net) (subst T (sym (eq-eqb a.net b.net (omega arith))) tt)
+    λ h. refuted _ h (both _ _ (subst T (sym (eq-eqb a.net b.net (omega arith))) tt)
     (subst (λ n. T (ltb 0 n)) (sym ea) real)) in
-    first (not (eqb a.layer b.layer && (different_nets a.net b.net && (is_laid a.mark || is_laid b.mark))))
-    (apart (max a.space b.space) a.rect b.rect)
-    (refute (eqb a.layer b.layer && (different_nets a.net b.net && (is_laid a.mark || is_laid b.mark)))
-    (λ h. same (left (different_nets a.net b.net) (is_laid a.mark || is_laid b.mark)
-    (right (eqb a.layer b.layer) (different_nets a.net b.net && (is_laid a.mark || is_laid b.mark)) h))))
+    first _ _ (refute (eqb a.layer b.layer && (different_nets a.net b.net && (is_laid a.mark || is_laid b.mark)))
+    (λ h. same (left _ _ (right _ _ h))))
 
 one_net_all_clear : (net : ℕ) (ns : List Piece) → T (ltb 0 net) → ((n : Piece) → In n ns → n.net ≡ net) → T (clear ns)
 one_net_all_clear net [] real of_net = tt
-one_net_all_clear net (a ∷ ns) real of_net =
-    both (all_of (keep_clear a) ns) (clear ns)
+one_net_all_clear net (a ∷ ns) real of_net = both _ _
     (all_of_from (keep_clear a) ns (λ n i. one_net_clear net a n real (of_net a (inl refl)) (of_net n (inr i))))
     (one_net_all_clear net ns real (λ n i. of_net n (inr i)))
 
 clear_append : (ps ns : List Piece) → T (clear ps) → T (clear ns)
     → ((o : Piece) → In o ps → (n : Piece) → In n ns → T (keep_clear o n)) → T (clear (ps ++ ns))
 clear_append [] ns h k across = k
-clear_append (p ∷ ps) ns h k across =
-    both (all_of (keep_clear p) (ps ++ ns)) (clear (ps ++ ns))
+clear_append (p ∷ ps) ns h k across = both _ _
     (all_of_from (keep_clear p) (ps ++ ns) (λ n i. elim (in_append n ps ns i) [
-      | inl old ↦ all_of_says (keep_clear p) ps (left (all_of (keep_clear p) ps) (clear ps) h) n old
+      | inl old ↦ all_of_says (keep_clear p) ps (left _ _ h) n old
       | inr new ↦ across p (inl refl) n new
     ]))
-    (clear_append ps ns (right (all_of (keep_clear p) ps) (clear ps) h) k (λ o i n j. across o (inr i) n j))
+    (clear_append ps ns (right _ _ h) k (λ o i n j. across o (inr i) n j))
 
 fits_in_order : (net : ℕ) (ps ns : List Piece) → T (ltb 0 net) → T (in_order ps) → ((n : Piece) → In n ns → Fits net ps n)
     → T (in_order (ps ++ ns))
-fits_in_order net ps ns real h fit =
-    both (all_of proper (ps ++ ns)) (clear (ps ++ ns))
+fits_in_order net ps ns real h fit = both _ _
     (all_of_from proper (ps ++ ns) (λ n i. elim (in_append n ps ns i) [
-      | inl old ↦ all_of_says proper ps (left (all_of proper ps) (clear ps) h) n old
+      | inl old ↦ all_of_says proper ps (left _ _ h) n old
       | inr new ↦ (fit n new).is_proper
     ]))
-    (clear_append ps ns (right (all_of proper ps) (clear ps) h) (one_net_all_clear net ns real (λ n i. (fit n i).of_net))
+    (clear_append ps ns (right _ _ h) (one_net_all_clear net ns real (λ n i. (fit n i).of_net))
     (λ o i n j. (fit n j).clears o i))
 
 -- a box that is moved out has a width and a height
@@ -82,23 +75,16 @@ moved_out_span d a b h = let r : (pos (min a b) -ℤ pos d) <ℤ (pos (max a b) 
 
 module _ (c : Class) where
   half_least : 1 ≤ c.half
-  half_least =
-      leb→le 1 c.half (left (leb 1 c.half) (leb c.half 500)
-      (left (ranges 1 500 c.half) (ranges 0 1000 c.space)
-      (left (ranges 1 500 c.half && ranges 0 1000 c.space) (ranges c.half 1000 c.pad) c.measured)))
+  half_least = leb→le _ _ (left _ _ (left _ _ (left _ _ c.measured)))
 
   pad_least : 1 ≤ c.pad
   pad_least =
       let wider : c.half ≤ c.pad =
-      leb→le c.half c.pad (left (leb c.half c.pad) (leb c.pad 1000)
-      (right (ranges 1 500 c.half && ranges 0 1000 c.space) (ranges c.half 1000 c.pad) c.measured)) in
+      leb→le _ _ (left _ _ (right _ _ c.measured)) in
       omega (arith, half_least)
 
   laid_proper : (net job layer d : ℕ) (p q : Point) → 1 ≤ d → T (proper (laid c net job layer (moved_out d (box p q))))
-  laid_proper net job layer d p q h =
-      both (lt_z (pos (min p.x q.x) -ℤ pos d) (pos (max p.x q.x) +ℤ pos d))
-      (lt_z (pos (min p.y q.y) -ℤ pos d) (pos (max p.y q.y) +ℤ pos d))
-      (moved_out_span d p.x q.x h) (moved_out_span d p.y q.y h)
+  laid_proper net job layer d p q h = both _ _ (moved_out_span d p.x q.x h) (moved_out_span d p.y q.y h)
 
   -- what is clear of all pieces fits
   laid_fits : (net job layer d : ℕ) (pieces : List Piece) (p q : Point) → 1 ≤ d
@@ -189,7 +175,7 @@ module _ (c : Class) where
 
 pub laid_pieces_keep_order : LaidPiecesKeepOrder
 laid_pieces_keep_order width height layers c net job pieces s r real order go ok =
-    let whole = whole_runs_are_lawful width height layers c net pieces s r (left (all_of proper pieces) (clear pieces) order)
+    let whole = whole_runs_are_lawful width height layers c net pieces s r (left _ _ order)
     go ok in
     fits_in_order net pieces (laid_along c net job (points_of s r)) real order
     (subst (λ points. (n : Piece) → In n (laid_along c net job points) → Fits net pieces n) whole.1

@@ -39,7 +39,7 @@ module _ {M : Type 0} (R : Rules) (tf : Tariff M) {leq : M → M → Type 0} (la
   nothing_does : (p : Point) (m : Move) (r : List Move) → after p m ≡ p → distance p m ≡ 0 → price tf p m ≡ tf.sums.nothing
       → Does R tf p m r r
   nothing_does p m r stays near costs =
-      let still : T (goes p m) → ⊥ = λ go. refuted (eqb (distance p m) 0) go (subst T (sym (eq-eqb (distance p m) 0 near)) tt) in
+      let still : T (goes p m) → ⊥ = λ go. refuted _ go (subst T (sym (eq-eqb (distance p m) 0 near)) tt) in
       record {
         steps = λ parts here ok h. subst (λ o. T (every step o r)) stays h;
         is_lawful = λ parts here ok h. subst (λ o. T (lawful R o r)) stays h;

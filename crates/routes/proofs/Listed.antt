@@ -38,12 +38,12 @@ in_kept keep x (v ∷ xs) (inr h) k = there (keep v) (in_kept keep x xs h k)
 
 pub all_of_says : {X : Type 0} (test : X → Bool) (xs : List X) → T (all_of test xs) → (x : X) → In x xs → T (test x)
 all_of_says test [] h x i = absurd i
-all_of_says test (y ∷ xs) h x (inl e) = subst (λ v. T (test v)) e (left (test y) (all_of test xs) h)
-all_of_says test (y ∷ xs) h x (inr i) = all_of_says test xs (right (test y) (all_of test xs) h) x i
+all_of_says test (y ∷ xs) h x (inl e) = subst (λ v. T (test v)) e (left _ _ h)
+all_of_says test (y ∷ xs) h x (inr i) = all_of_says test xs (right _ _ h) x i
 
 pub all_of_from : {X : Type 0} (test : X → Bool) (xs : List X) → ((x : X) → In x xs → T (test x)) → T (all_of test xs)
 all_of_from test [] h = tt
-all_of_from test (y ∷ xs) h = both (test y) (all_of test xs) (h y (inl refl)) (all_of_from test xs (λ x i. h x (inr i)))
+all_of_from test (y ∷ xs) h = both _ _ (h y (inl refl)) (all_of_from test xs (λ x i. h x (inr i)))
 
 -- what passes one test passes another
 pub all_of_like : {X : Type 0} (f g : X → Bool) (xs : List X) → ((x : X) → In x xs → T (f x) → T (g x)) → T (all_of f xs)
@@ -52,8 +52,8 @@ all_of_like f g xs like h = all_of_from g xs (λ x i. like x i (all_of_says f xs
 
 pub mem_in : (n : ℕ) (ns : List ℕ) → In n ns → T (mem n ns)
 mem_in n [] i = absurd i
-mem_in n (m ∷ ns) (inl e) = first (eqb n m) (mem n ns) (subst (λ k. T (eqb n k)) (sym e) (eqb_refl n))
-mem_in n (m ∷ ns) (inr i) = second (eqb n m) (mem n ns) (mem_in n ns i)
+mem_in n (m ∷ ns) (inl e) = first _ _ (subst (λ k. T (eqb n k)) (sym e) (eqb_refl n))
+mem_in n (m ∷ ns) (inr i) = second _ _ (mem_in n ns i)
 
 pub mem_distinct : (n : ℕ) (ns : List ℕ) → T (mem n ns) → T (mem n (distinct ns))
 mem_distinct n [] h = absurd h
@@ -61,21 +61,21 @@ mem_distinct n (m ∷ ns) h =
     let again : T (mem n ns) → T (mem n (distinct ns)) = mem_distinct n ns in
     let later : (b : Bool) → T (mem n ns) → T (mem n (cond b (distinct ns) (m ∷ distinct ns))) =
     λ b k. elim b as (λ v. T (mem n (cond v (distinct ns) (m ∷ distinct ns))))
-    [ true ↦ again k | false ↦ second (eqb n m) (mem n (distinct ns)) (again k) ] in
-    elim (either (eqb n m) (mem n ns) h) [
-      | inl e ↦ once (mem m ns) (λ k. again (subst (λ i. T (mem i ns)) (sym (eqb→eq n m e)) k)) e
+    [ true ↦ again k | false ↦ second _ _ (again k) ] in
+    elim (either _ _ h) [
+      | inl e ↦ once (mem m ns) (λ k. again (subst (λ i. T (mem i ns)) (sym (eqb→eq _ _ e)) k)) e
       | inr k ↦ later (mem m ns) k
     ]
   where
     once : (b : Bool) → (T b → T (mem n (distinct ns))) → T (eqb n m) → T (mem n (cond b (distinct ns) (m ∷ distinct ns)))
     once true f e = f tt
-    once false f e = first (eqb n m) (mem n (distinct ns)) e
+    once false f e = first _ _ e
 
 pub among_says : (ns qs : List ℕ) → T (among ns qs) → (n : ℕ) → T (mem n ns) → T (mem n qs)
 among_says [] qs h n k = absurd k
-among_says (m ∷ ns) qs h n k = elim (either (eqb n m) (mem n ns) k) [
-  | inl e ↦ subst (λ i. T (mem i qs)) (sym (eqb→eq n m e)) (left (mem m qs) (among ns qs) h)
-  | inr l ↦ among_says ns qs (right (mem m qs) (among ns qs) h) n l
+among_says (m ∷ ns) qs h n k = elim (either _ _ k) [
+  | inl e ↦ subst (λ i. T (mem i qs)) (sym (eqb→eq _ _ e)) (left _ _ h)
+  | inr l ↦ among_says ns qs (right _ _ h) n l
 ]
 
 pub among_itself : (ns : List ℕ) → T (among ns ns)

@@ -8,23 +8,20 @@ use Rattle.routes.proofs.Bools.{left, right, both}
 
 module _ (test : Point → Move → Bool) (p : Point) (m : Move) (r : List Move) where
   pub this_move : T (every test p (m ∷ r)) → T (test p m)
-  this_move h = left (test p m) (every test (after p m) r) h
+  this_move h = left _ _ h
 
   pub later_moves : T (every test p (m ∷ r)) → T (every test (after p m) r)
-  later_moves h = right (test p m) (every test (after p m) r) h
+  later_moves h = right _ _ h
 
   pub more_moves : T (test p m) → T (every test (after p m) r) → T (every test p (m ∷ r))
-  more_moves h k = both (test p m) (every test (after p m) r) h k
+  more_moves h k = both _ _ h k
 
 module _ (R : Rules) (p : Point) where
   pub layer_inside : T (inside R p) → T (ranges 1 R.layers p.layer)
-  layer_inside h = left (ranges 1 R.layers p.layer) (leb p.x R.width && leb p.y R.height) h
+  layer_inside h = left _ _ h
 
   pub x_inside : T (inside R p) → p.x ≤ R.width
-  x_inside h =
-      leb→le p.x R.width
-      (left (leb p.x R.width) (leb p.y R.height)
-      (right (ranges 1 R.layers p.layer) (leb p.x R.width && leb p.y R.height) h))
+  x_inside h = leb→le _ _ (left _ _ (right _ _ h))
 
   pub y_inside : T (inside R p) → p.y ≤ R.height
   y_inside h =
@@ -33,19 +30,17 @@ module _ (R : Rules) (p : Point) where
       (right (ranges 1 R.layers p.layer) (leb p.x R.width && leb p.y R.height) h))
 
   pub is_inside : T (ranges 1 R.layers p.layer) → p.x ≤ R.width → p.y ≤ R.height → T (inside R p)
-  is_inside l h k =
-      both (ranges 1 R.layers p.layer) (leb p.x R.width && leb p.y R.height) l
-      (both (leb p.x R.width) (leb p.y R.height) (le→leb p.x R.width h) (le→leb p.y R.height k))
+  is_inside l h k = both _ _ l (both _ _ (le→leb _ _ h) (le→leb _ _ k))
 
 module _ (R : Rules) (p : Point) (m : Move) where
   pub move_inside : T (lawful_move R p m) → T (inside R (after p m))
-  move_inside h = left (inside R (after p m)) (on_free_ground R p m) h
+  move_inside h = left _ _ h
 
   pub move_free : T (lawful_move R p m) → T (on_free_ground R p m)
-  move_free h = right (inside R (after p m)) (on_free_ground R p m) h
+  move_free h = right _ _ h
 
   pub move_lawful : T (inside R (after p m)) → T (on_free_ground R p m) → T (lawful_move R p m)
-  move_lawful h k = both (inside R (after p m)) (on_free_ground R p m) h k
+  move_lawful h k = both _ _ h k
 
 -- where a run along x ends
 pub x_within : (R : Rules) (p : Point) (x : ℕ) → T (lawful_move R p (along_x x)) → x ≤ R.width
@@ -58,12 +53,10 @@ put_inside R p x fits h = is_inside R (after p (along_x x)) (layer_inside R p h)
 -- a via's two layers are next to one another, and free at its point
 module _ (R : Rules) (p : Point) (l : ℕ) where
   pub via_next : T (on_free_ground R p (to_layer l)) → T (eqb (gap p.layer l) 1)
-  via_next h = left (eqb (gap p.layer l) 1) (R.via p.layer (box p p) && R.via l (box p p)) h
+  via_next h = left _ _ h
 
   pub via_here : T (on_free_ground R p (to_layer l)) → T (R.via p.layer (box p p))
-  via_here h =
-      left (R.via p.layer (box p p)) (R.via l (box p p))
-      (right (eqb (gap p.layer l) 1) (R.via p.layer (box p p) && R.via l (box p p)) h)
+  via_here h = left _ _ (right _ _ h)
 
   pub via_there : T (on_free_ground R p (to_layer l)) → T (R.via l (box p p))
   via_there h =

@@ -35,8 +35,8 @@ line_between [] a b = inr tt
 line_between (q ∷ qs) a b = elim (decide (between a b q)) [
   | inl h ↦ inl (q, first _ _ (eqb_refl q), h)
   | inr off ↦ elim (line_between qs a b) [
-    | inl found ↦ inl (found.0, second (eqb found.0 q) _ found.1, found.2)
-    | inr empty ↦ inr (both _ _ (refute (between a b q) off) empty)
+    | inl found ↦ inl (found.0, second _ _ found.1, found.2)
+    | inr empty ↦ inr (both _ _ (refute _ off) empty)
   ]
 ]
 

@@ -24,13 +24,12 @@ same_verdict false false f g = refl
 
 neighbours_apart : (qs : List ℕ) (a b : ℕ) → T (neighbours qs a b) → T (not (eqb (gap a b) 0))
 neighbours_apart qs a b h =
-    let off = left (not (eqb a b)) (none_between qs a b)
-    (right (mem a qs && mem b qs) (not (eqb a b) && none_between qs a b) h) in
-    refute (eqb (gap a b) 0) (λ k. let z : gap a b ≡ 0 = eqb→eq (gap a b) 0 k in
-    refuted (eqb a b) off (subst T (sym (eq-eqb a b (omega arith))) tt))
+    let off = left _ _ (right _ _ h) in
+    refute _ (λ k. let z : gap a b ≡ 0 = eqb→eq _ _ k in
+    refuted _ off (subst T (sym (eq-eqb a b (omega arith))) tt))
 
 step_goes : (n : ℕ) → T (eqb n 1) → T (not (eqb n 0))
-step_goes n h = refute (eqb n 0) (λ k. let one : n ≡ 1 = eqb→eq n 1 h in let none : n ≡ 0 = eqb→eq n 0 k in omega arith)
+step_goes n h = refute _ (λ k. let one : n ≡ 1 = eqb→eq _ _ h in let none : n ≡ 0 = eqb→eq _ _ k in omega arith)
 
 pub routes_are_paths : {M : Type 0} (sums : Sums M) → Laws sums → RoutesArePaths sums
 routes_are_paths sums laws prices width height layers c net pieces s r starts ok =
@@ -50,8 +49,8 @@ routes_are_paths sums laws prices width height layers c net pieces s r starts ok
 
 -- a move between neighbouring nodes goes somewhere
 line_move_goes : (R : Rules) (X Y : List ℕ) (p : Point) (m : Move) → T (line_move X Y p m) → T (lawful_move R p m) → T (goes p m)
-line_move_goes R X Y p (along_x x) h ok = neighbours_apart X p.x x (left (neighbours X p.x x) (mem p.y Y) h)
-line_move_goes R X Y p (along_y y) h ok = neighbours_apart Y p.y y (left (neighbours Y p.y y) (mem p.x X) h)
+line_move_goes R X Y p (along_x x) h ok = neighbours_apart X p.x x (left _ _ h)
+line_move_goes R X Y p (along_y y) h ok = neighbours_apart Y p.y y (left _ _ h)
 line_move_goes R X Y p (to_layer l) h ok = step_goes (gap p.layer l) (via_next R p l (move_free R p (to_layer l) ok))
 
 line_moves_go : (R : Rules) (X Y : List ℕ) (p : Point) (r : List Move) → T (every (line_move X Y) p r) → T (lawful R p r)

@@ -56,7 +56,7 @@ module _ {M : Type 0} (tf : Tariff M) {leq : M → M → Type 0} (laws : Ordered
     same_end = t.same_end;
     same_ys = t.same_ys;
     same_cost = ap (tf.sums.plus (times tf.sums (gap p.x x) (tf.prices.x p.layer))) t.same_cost;
-    walk = both (neighbours qs p.x x) (walks qs x (xs t.route)) next t.walk;
+    walk = both _ _ next t.walk;
   }
 
   two_moves : (p : Point) (q x : ℕ) (r : List Move) → gap p.x x ≡ gap p.x q + gap q x
@@ -96,8 +96,8 @@ module _ {M : Type 0} (tf : Tariff M) {leq : M → M → Type 0} (laws : Ordered
     | inr ne ↦ elim (line_between qs p.x x) [
       | inl found ↦
           let q = found.0 in
-          let past : min p.x x < q = ltb→lt _ _ (left (ltb (min p.x x) q) (ltb q (max p.x x)) found.2) in
-          let before : q < max p.x x = ltb→lt _ _ (right (ltb (min p.x x) q) (ltb q (max p.x x)) found.2) in
+          let past : min p.x x < q = ltb→lt _ _ (left _ _ found.2) in
+          let before : q < max p.x x = ltb→lt _ _ (right _ _ found.2) in
           let within : x ≤ R.width = x_within R p x ok in
           two_moves p q x r (omega arith)
           (cut n p q (along_x x ∷ r) (omega arith) fits from found.1
@@ -105,10 +105,7 @@ module _ {M : Type 0} (tf : Tariff M) {leq : M → M → Type 0} (laws : Ordered
           (cut n (after p (along_x q)) x r (omega arith) (omega arith) found.1 to
           (part_lawful p x q x fits ok (omega arith) (omega arith)) t))
       | inr clear ↦
-          one_move p x r
-          (both (mem p.x qs && mem x qs) (not (eqb p.x x) && none_between qs p.x x)
-          (both (mem p.x qs) (mem x qs) from to)
-          (both (not (eqb p.x x)) (none_between qs p.x x) (refute (eqb p.x x) (λ h. ne (eqb→eq p.x x h))) clear))
+          one_move p x r (both _ _ (both _ _ from to) (both _ _ (refute _ (λ h. ne (eqb→eq _ _ h))) clear))
           ok t
     ]
   ]

@@ -2,6 +2,8 @@
 use Rattle.std.proofs.Common.{◌≡◌, ℕ, ◌+◌, ◌-◌, ◌<◌, ◌≤◌, min, max, Bool, true, false, cond, not, ◌&&◌, T, eqb, ltb, ◌⊎◌, List, [], ◌∷◌, sym, refl, ap, ◌∙◌, subst, inl, inr, arith}
 use lib.Dec.{eqb_refl}
 use Rattle.std.proofs.lemmas.Bool.{lt-ltb, le-ltb, cases_eq, ne_eqb}
+use Rattle.geometry.specs.declared.axis.Axis.{Axis}
+use Rattle.geometry.specs.declared.axis.Axis.TheVariants.{X, Y}
 use Rattle.geometry.specs.declared.point.Point.{Point}
 use Rattle.geometry.specs.declared.rect.Span.{Span}
 use Rattle.geometry.specs.Boxes.{span}
@@ -11,20 +13,19 @@ use Rattle.routes.specs.Turns.{heading, straight_on, turns}
 use Rattle.routes.proofs.Moves.{layer_inside, x_inside, y_inside, is_inside, move_inside, move_free, move_lawful}
 use Rattle.routes.proofs.Sums.{Ordered, times_add}
 use Rattle.routes.proofs.Shift.{wide}
-use Rattle.routes.proofs.Flip.{flip_rect}
+use Rattle.routes.proofs.Flip.{turn}
 
--- A box within a free one is free for wires, along x and along y.
-pub record PartsFree (R : Rules) : Type 0 where
-  pub along_x : (l a b a' b' : ℕ) (y : Span) → a ≤ a' → b' ≤ b → T (R.wire l (wide a b y)) → T (R.wire l (wide a' b' y))
-  pub along_y : (l a b a' b' : ℕ) (x : Span) → a ≤ a' → b' ≤ b → T (R.wire l (flip_rect (wide a b x)))
-      → T (R.wire l (flip_rect (wide a' b' x)))
+-- A box within a free one is free for wires, along each axis.
+abbrev pub PartsFree : Rules → Type 0
+PartsFree R =
+    (axis : Axis) (l a b a' b' : ℕ) (y : Span) → a ≤ a' → b' ≤ b → T (R.wire l (turn axis (wide a b y)))
+    → T (R.wire l (turn axis (wide a' b' y)))
 
--- A box within two free ones that overlap or touch is free for wires, along x and along y.
-pub record JoinsFree (R : Rules) : Type 0 where
-  pub along_x : (l a b b' c a' c' : ℕ) (y : Span) → a ≤ a' → b' ≤ b → c' ≤ c → T (R.wire l (wide a b y))
-      → T (R.wire l (wide b' c y)) → T (R.wire l (wide a' c' y))
-  pub along_y : (l a b b' c a' c' : ℕ) (x : Span) → a ≤ a' → b' ≤ b → c' ≤ c → T (R.wire l (flip_rect (wide a b x)))
-      → T (R.wire l (flip_rect (wide b' c x))) → T (R.wire l (flip_rect (wide a' c' x)))
+-- A box within two free ones that overlap or touch is free for wires, along each axis.
+abbrev pub JoinsFree : Rules → Type 0
+JoinsFree R =
+    (axis : Axis) (l a b b' c a' c' : ℕ) (y : Span) → a ≤ a' → b' ≤ b → c' ≤ c → T (R.wire l (turn axis (wide a b y)))
+    → T (R.wire l (turn axis (wide b' c y))) → T (R.wire l (turn axis (wide a' c' y)))
 
 -- The run m from p is the run m₁ and then, straight on, m again from where m₁ ends.
 pub record Split {M : Type 0} (R : Rules) (tf : Tariff M) (p : Point) (m₁ m : Move) : Type 0 where
@@ -100,11 +101,11 @@ module _ {M : Type 0} (R : Rules) (tf : Tariff M) {leq : M → M → Type 0} (la
         let to : x ≤ R.width = x_inside R (after p (along_x x)) in-there in
         move_lawful R p (along_x q) (is_inside R (after p (along_x q)) (layer_inside R p here) (omega (arith, h))
         (y_inside R p here))
-        (parts.along_x p.layer (min p.x x) (max p.x x) (min p.x q) (max p.x q) (span p.y p.y)
+        (parts X p.layer (min p.x x) (max p.x x) (min p.x q) (max p.x q) (span p.y p.y)
         (omega (arith, h)) (omega (arith, h)) (move_free R p (along_x x) ok));
     rest_lawful = λ parts here ok.
         move_lawful R (after p (along_x q)) (along_x x) (move_inside R p (along_x x) ok)
-        (parts.along_x p.layer (min p.x x) (max p.x x) (min q x) (max q x) (span p.y p.y) (omega (arith, h))
+        (parts X p.layer (min p.x x) (max p.x x) (min q x) (max q x) (span p.y p.y) (omega (arith, h))
         (omega (arith, h)) (move_free R p (along_x x) ok));
     whole_lawful = λ joins ok₁ ok.
         let free₁ = move_free R p (along_x q) ok₁ in
@@ -112,10 +113,10 @@ module _ {M : Type 0} (R : Rules) (tf : Tariff M) {leq : M → M → Type 0} (la
         move_lawful R p (along_x x) (move_inside R (after p (along_x q)) (along_x x) ok)
         (elim h [
           | inl up ↦
-              joins.along_x p.layer (min p.x q) (max p.x q) (min q x) (max q x) (min p.x x) (max p.x x)
+              joins X p.layer (min p.x q) (max p.x q) (min q x) (max q x) (min p.x x) (max p.x x)
               (span p.y p.y) (omega (arith, up)) (omega (arith, up)) (omega (arith, up)) free₁ free₂
           | inr down ↦
-              joins.along_x p.layer (min q x) (max q x) (min p.x q) (max p.x q) (min p.x x) (max p.x x)
+              joins X p.layer (min q x) (max q x) (min p.x q) (max p.x q) (min p.x x) (max p.x x)
               (span p.y p.y) (omega (arith, down)) (omega (arith, down)) (omega (arith, down)) free₂ free₁
         ]);
   }
@@ -135,11 +136,11 @@ module _ {M : Type 0} (R : Rules) (tf : Tariff M) {leq : M → M → Type 0} (la
         let to : y ≤ R.height = y_inside R (after p (along_y y)) in-there in
         move_lawful R p (along_y q) (is_inside R (after p (along_y q)) (layer_inside R p here) (x_inside R p here)
         (omega (arith, h)))
-        (parts.along_y p.layer (min p.y y) (max p.y y) (min p.y q) (max p.y q) (span p.x p.x)
+        (parts Y p.layer (min p.y y) (max p.y y) (min p.y q) (max p.y q) (span p.x p.x)
         (omega (arith, h)) (omega (arith, h)) (move_free R p (along_y y) ok));
     rest_lawful = λ parts here ok.
         move_lawful R (after p (along_y q)) (along_y y) (move_inside R p (along_y y) ok)
-        (parts.along_y p.layer (min p.y y) (max p.y y) (min q y) (max q y) (span p.x p.x) (omega (arith, h))
+        (parts Y p.layer (min p.y y) (max p.y y) (min q y) (max q y) (span p.x p.x) (omega (arith, h))
         (omega (arith, h)) (move_free R p (along_y y) ok));
     whole_lawful = λ joins ok₁ ok.
         let free₁ = move_free R p (along_y q) ok₁ in
@@ -147,10 +148,10 @@ module _ {M : Type 0} (R : Rules) (tf : Tariff M) {leq : M → M → Type 0} (la
         move_lawful R p (along_y y) (move_inside R (after p (along_y q)) (along_y y) ok)
         (elim h [
           | inl up ↦
-              joins.along_y p.layer (min p.y q) (max p.y q) (min q y) (max q y) (min p.y y) (max p.y y)
+              joins Y p.layer (min p.y q) (max p.y q) (min q y) (max q y) (min p.y y) (max p.y y)
               (span p.x p.x) (omega (arith, up)) (omega (arith, up)) (omega (arith, up)) free₁ free₂
           | inr down ↦
-              joins.along_y p.layer (min q y) (max q y) (min p.y q) (max p.y q) (min p.y y) (max p.y y)
+              joins Y p.layer (min q y) (max q y) (min p.y q) (max p.y q) (min p.y y) (max p.y y)
               (span p.x p.x) (omega (arith, down)) (omega (arith, down)) (omega (arith, down)) free₂ free₁
         ]);
   }

@@ -1,7 +1,9 @@
 -- Lines suffice: a lawful path is moved onto the lines along x, then along y, and cut where it passes over a line. Assumes
 -- nothing.
 use Rattle.std.proofs.Common.{◌≡◌, ℕ, ◌≤◌, not, ◌&&◌, T, eqb, List, [], ◌∷◌, sym, ap, ◌∙◌, subst}
+use Rattle.geometry.specs.declared.axis.Axis.TheVariants.{X as AxisX, Y as AxisY}
 use Rattle.geometry.specs.declared.point.Point.{Point}
+use Rattle.geometry.specs.Axes.{axis_of}
 use Rattle.geometry.specs.Lists.{mem}
 use Rattle.costs.specs.Amounts.{Sums, Laws, Tariff}
 use Rattle.routes.specs.Routes.{Move, along_x, along_y, to_layer, after, end, every, Rules, lawful, cost}
@@ -15,11 +17,11 @@ use Rattle.routes.proofs.Shift.{xs, ys, Steady}
 use Rattle.routes.proofs.Snap.{Improves, snap_x}
 use Rattle.routes.proofs.Refine.{walks, refine_x}
 use Rattle.routes.proofs.Flip.{flip, flip_point, flip_rules, flip_tariff, xs_flip, ys_flip, end_flip, lawful_flip, cost_flip}
-use Rattle.routes.proofs.Zoned.{free_steady_x, free_steady_y}
+use Rattle.routes.proofs.Zoned.{free_steady}
 use Rattle.routes.proofs.Enough.{first_terminal, second_terminal, wire_zones_lined, via_zones_lined}
 
 neighbour_line : (qs : List ℕ) (a b : ℕ) → T (neighbours qs a b) → T (mem b qs)
-neighbour_line qs a b h = right (mem a qs) (mem b qs) (left (mem a qs && mem b qs) (not (eqb a b) && none_between qs a b) h)
+neighbour_line qs a b h = right (mem a qs) (mem b qs) (left _ _ h)
 
 -- what goes from line to line along both axes is on the lines
 on_lines_from_walks : (X Y : List ℕ) (p : Point) (r : List Move) → T (mem p.x X) → T (mem p.y Y)
@@ -27,17 +29,15 @@ on_lines_from_walks : (X Y : List ℕ) (p : Point) (r : List Move) → T (mem p.
     → T (every (line_move X Y) p r)
 on_lines_from_walks X Y p [] on_x on_y wx wy = tt
 on_lines_from_walks X Y p (along_x x ∷ r) on_x on_y wx wy =
-    let next = left (neighbours X p.x x) (walks X x (xs r)) wx in
-    more_moves (line_move X Y) p (along_x x) r (both (neighbours X p.x x) (mem p.y Y) next on_y)
-    (on_lines_from_walks X Y (after p (along_x x)) r (neighbour_line X p.x x next) on_y
-    (right (neighbours X p.x x) (walks X x (xs r)) wx) wy)
+    let next = left _ _ wx in
+    more_moves (line_move X Y) p (along_x x) r (both _ _ next on_y)
+    (on_lines_from_walks X Y (after p (along_x x)) r (neighbour_line X p.x x next) on_y (right _ _ wx) wy)
 on_lines_from_walks X Y p (along_y y ∷ r) on_x on_y wx wy =
-    let next = left (neighbours Y p.y y) (walks Y y (ys r)) wy in
-    more_moves (line_move X Y) p (along_y y) r (both (neighbours Y p.y y) (mem p.x X) next on_x)
-    (on_lines_from_walks X Y (after p (along_y y)) r on_x (neighbour_line Y p.y y next) wx
-    (right (neighbours Y p.y y) (walks Y y (ys r)) wy))
+    let next = left _ _ wy in
+    more_moves (line_move X Y) p (along_y y) r (both _ _ next on_x)
+    (on_lines_from_walks X Y (after p (along_y y)) r on_x (neighbour_line Y p.y y next) wx (right _ _ wy))
 on_lines_from_walks X Y p (to_layer l ∷ r) on_x on_y wx wy =
-    more_moves (line_move X Y) p (to_layer l) r (both (mem p.x X) (mem p.y Y) on_x on_y)
+    more_moves (line_move X Y) p (to_layer l) r (both _ _ on_x on_y)
     (on_lines_from_walks X Y (after p (to_layer l)) r on_x on_y wx wy)
 
 -- a route in place of r that goes from line to line along x
@@ -101,23 +101,21 @@ pub lines_suffice : {M : Type 0} (sums : Sums M) → Laws sums → LinesSuffice 
 lines_suffice sums laws prices width height layers c net pieces s t X Y enough r path =
     let R = rules_of width height layers c net pieces in
     let tf = at_prices sums prices in
-    let on_x = left (among (x_lines width c net pieces s.x t.x) X)
-    (among (y_lines height c net pieces s.y t.y) Y) enough in
-    let on_y = right (among (x_lines width c net pieces s.x t.x) X)
-    (among (y_lines height c net pieces s.y t.y) Y) enough in
-    let sx = first_terminal (λ o. o.x) width c net pieces s.x t.x X on_x in
-    let tx = second_terminal (λ o. o.x) width c net pieces s.x t.x X on_x in
-    let sy = first_terminal (λ o. o.y) height c net pieces s.y t.y Y on_y in
-    let ty = second_terminal (λ o. o.y) height c net pieces s.y t.y Y on_y in
+    let on_x = left _ _ enough in
+    let on_y = right _ _ enough in
+    let sx = first_terminal (axis_of AxisX) width c net pieces s.x t.x X on_x in
+    let tx = second_terminal (axis_of AxisX) width c net pieces s.x t.x X on_x in
+    let sy = first_terminal (axis_of AxisY) height c net pieces s.y t.y Y on_y in
+    let ty = second_terminal (axis_of AxisY) height c net pieces s.y t.y Y on_y in
     let w = both_axes tf (ordered laws) R X Y s r
     (onto_lines_x tf (ordered laws) R X
-    (free_steady_x X width net c.half c.space pieces (wire_zones_lined (λ o. o.x) width c net pieces s.x t.x X on_x))
-    (free_steady_x X width net c.pad c.space pieces (via_zones_lined (λ o. o.x) width c net pieces s.x t.x X on_x))
+    (free_steady AxisX X width net c.half c.space pieces (wire_zones_lined (axis_of AxisX) width c net pieces s.x t.x X on_x))
+    (free_steady AxisX X width net c.pad c.space pieces (via_zones_lined (axis_of AxisX) width c net pieces s.x t.x X on_x))
     s (x_inside R s path.starts) sx r (subst (λ o. T (mem o.x X)) (sym path.ends) tx) path.is_lawful)
     (λ r' ok' ends'. onto_lines_x (flip_tariff tf) (ordered laws) (flip_rules R) Y
-    (free_steady_y Y height net c.half c.space pieces
-    (wire_zones_lined (λ o. o.y) height c net pieces s.y t.y Y on_y))
-    (free_steady_y Y height net c.pad c.space pieces (via_zones_lined (λ o. o.y) height c net pieces s.y t.y Y on_y))
+    (free_steady AxisY Y height net c.half c.space pieces
+    (wire_zones_lined (axis_of AxisY) height c net pieces s.y t.y Y on_y))
+    (free_steady AxisY Y height net c.pad c.space pieces (via_zones_lined (axis_of AxisY) height c net pieces s.y t.y Y on_y))
     (flip_point s) (y_inside R s path.starts) sy (flip r')
     (subst (λ o. T (mem o.x Y)) (sym (end_flip s r' ∙ ap flip_point (ends' ∙ path.ends))) ty)
     (lawful_flip R s r' ok')) in (

@@ -35,8 +35,8 @@ no_heading_y false h = h
 -- the same heading of two runs along one axis, whose headings are u and d, is the same way
 same_way : (u d : ℕ) → (u ≡ d → ⊥) → (a b : Bool) → T (eqb (cond a u d) (cond b u d)) → a ≡ b
 same_way u d ne true true h = refl
-same_way u d ne true false h = absurd (ne (eqb→eq u d h))
-same_way u d ne false true h = absurd (ne (sym (eqb→eq d u h)))
+same_way u d ne true false h = absurd (ne (eqb→eq _ _ h))
+same_way u d ne false true h = absurd (ne (sym (eqb→eq _ _ h)))
 same_way u d ne false false h = refl
 
 -- the first of two runs the same way ends amid the whole
@@ -47,26 +47,22 @@ amid a q b e ne ne' = elim (cases_lt a q) [
 ]
 
 goes_apart : (a b : ℕ) → T (not (eqb (gap a b) 0)) → a ≡ b → ⊥
-goes_apart a b go e = refuted (eqb (gap a b) 0) go (subst T (sym (eq-eqb (gap a b) 0 (omega arith))) tt)
+goes_apart a b go e = refuted _ go (subst T (sym (eq-eqb (gap a b) 0 (omega arith))) tt)
 
 module _ {M : Type 0} (R : Rules) (tf : Tariff M) {leq : M → M → Type 0} (laws : Ordered tf.sums leq) where
   -- a run that is continued straight on is the first part of the whole
   straight_split : (p : Point) (m m' : Move) (r : List Move) → T (straight_on p m (m' ∷ r)) → T (goes p m)
       → T (goes (after p m) m') → Split R tf p m m'
   straight_split p (along_x q) (along_x x) r on go go' =
-      let same = same_way 1 2 (λ e. omega arith) (ltb p.x q) (ltb q x) (right (ltb 0 (heading p (along_x q))) _ on) in
+      let same = same_way 1 2 (λ e. omega arith) (ltb p.x q) (ltb q x) (right _ _ on) in
       split_x R tf laws p q x (amid p.x q x same (goes_apart p.x q go) (goes_apart q x go'))
-  straight_split p (along_x q) (along_y y) r on go go' =
-      absurd (other_axis (ltb p.x q) (ltb p.y y) (right (ltb 0 (heading p (along_x q))) _ on))
-  straight_split p (along_x q) (to_layer l) r on go go' =
-      absurd (no_heading_x (ltb p.x q) (right (ltb 0 (heading p (along_x q))) _ on))
-  straight_split p (along_y q) (along_x x) r on go go' =
-      absurd (other_axis_back (ltb p.y q) (ltb p.x x) (right (ltb 0 (heading p (along_y q))) _ on))
+  straight_split p (along_x q) (along_y y) r on go go' = absurd (other_axis (ltb p.x q) (ltb p.y y) (right _ _ on))
+  straight_split p (along_x q) (to_layer l) r on go go' = absurd (no_heading_x (ltb p.x q) (right _ _ on))
+  straight_split p (along_y q) (along_x x) r on go go' = absurd (other_axis_back (ltb p.y q) (ltb p.x x) (right _ _ on))
   straight_split p (along_y q) (along_y y) r on go go' =
-      let same = same_way 3 4 (λ e. omega arith) (ltb p.y q) (ltb q y) (right (ltb 0 (heading p (along_y q))) _ on) in
+      let same = same_way 3 4 (λ e. omega arith) (ltb p.y q) (ltb q y) (right _ _ on) in
       split_y R tf laws p q y (amid p.y q y same (goes_apart p.y q go) (goes_apart q y go'))
-  straight_split p (along_y q) (to_layer l) r on go go' =
-      absurd (no_heading_y (ltb p.y q) (right (ltb 0 (heading p (along_y q))) _ on))
+  straight_split p (along_y q) (to_layer l) r on go go' = absurd (no_heading_y (ltb p.y q) (right _ _ on))
   straight_split p (to_layer l) m' r on go go' = absurd on
 
   -- the route without its first move, which the second has on its way

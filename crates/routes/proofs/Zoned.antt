@@ -2,9 +2,12 @@
 use Rattle.std.proofs.Common.{◌≡◌, ℕ, suc, ◌<◌, ◌≤◌, not, ◌&&◌, T, eqb, ◌⊎◌, List, ℤ, pos, negsuc, refl, inl, inr, arith, ltb→lt, lt→ltb}
 use lib.Signed.{lt_z}
 use Rattle.std.proofs.lemmas.Bool.{cases_lt}
+use Rattle.geometry.specs.declared.axis.Axis.{Axis}
+use Rattle.geometry.specs.declared.axis.Axis.TheVariants.{X, Y}
 use Rattle.geometry.specs.declared.piece.Piece.{Piece}
 use Rattle.geometry.specs.declared.rect.Span.{Span}
 use Rattle.geometry.specs.declared.rect.Rect.{Rect}
+use Rattle.geometry.specs.Axes.{axis_of}
 use Rattle.geometry.specs.Lists.{mem}
 use Rattle.geometry.specs.Nets.{different_nets}
 use Rattle.geometry.specs.Zones.{zone, crosses, in_way}
@@ -13,7 +16,7 @@ use Rattle.routes.proofs.Bools.{left, right, both, refute, refuted}
 use Rattle.routes.proofs.Listed.{In, all_of_says, all_of_from}
 use Rattle.routes.proofs.Numbers.{NoLine}
 use Rattle.routes.proofs.Shift.{Steady, wide}
-use Rattle.routes.proofs.Flip.{flip_rect}
+use Rattle.routes.proofs.Flip.{turn}
 
 -- why a piece is in the way of a box
 pub record Blocks (net reach space layer : ℕ) (area : Rect) (o : Piece) : Type 0 where
@@ -31,14 +34,27 @@ module _ (net reach space layer : ℕ) (area : Rect) (o : Piece) where
       let y = crosses (zone o reach space).y area.y in
       let met = right apart (x && y) (right on (apart && (x && y)) h) in
       record {
-        same_layer = left on (apart && (x && y)) h;
-        different = left apart (x && y) (right on (apart && (x && y)) h);
-        on_x = left x y met;
+        same_layer = left _ _ h;
+        different = left _ _ (right on (apart && (x && y)) h);
+        on_x = left _ _ met;
         on_y = right x y met;
       }
 
   pub blocked : Blocks net reach space layer area o → T (in_way (ask net reach space layer area) o)
   blocked b = both _ _ b.same_layer (both _ _ b.different (both _ _ b.on_x b.on_y))
+
+-- along an axis, for a box with any span along the other
+module _ {net reach space layer : ℕ} {o : Piece} where
+  pub on_axis : (axis : Axis) (s y : Span) → Blocks net reach space layer (turn axis (record { x = s; y = y })) o
+      → T (crosses (axis_of axis (zone o reach space)) s)
+  on_axis X s y b = b.on_x
+  on_axis Y s y b = b.on_y
+
+  pub in_place : (axis : Axis) (s s' y : Span) → T (crosses (axis_of axis (zone o reach space)) s')
+      → Blocks net reach space layer (turn axis (record { x = s; y = y })) o
+      → Blocks net reach space layer (turn axis (record { x = s'; y = y })) o
+  in_place X s s' y h b = record { same_layer = b.same_layer; different = b.different; on_x = h; on_y = b.on_y }
+  in_place Y s s' y h b = record { same_layer = b.same_layer; different = b.different; on_x = b.on_x; on_y = h }
 
 -- a box is free if each piece in its way is in the way of one of two boxes that are free
 pub free_of_two : (net reach space : ℕ) (pieces : List Piece) (layer : ℕ) (area₁ area₂ area : Rect)
@@ -47,16 +63,13 @@ pub free_of_two : (net reach space : ℕ) (pieces : List Piece) (layer : ℕ) (a
     → T (free net reach space pieces layer area₁) → T (free net reach space pieces layer area₂)
     → T (free net reach space pieces layer area)
 free_of_two net reach space pieces layer area₁ area₂ area back h₁ h₂ =
-    all_of_from (λ o. not (in_way (ask net reach space layer area) o)) pieces
-    (λ o i. refute (in_way (ask net reach space layer area) o)
+    all_of_from (λ o. not (in_way (ask net reach space layer area) o)) pieces (λ o i. refute _
     (λ h. elim (back o i (why_blocked net reach space layer area o h))
     [ inl b ↦ clash area₁ h₁ o i b | inr b ↦ clash area₂ h₂ o i b ]))
   where
     clash : (a : Rect) → T (free net reach space pieces layer a) → (o : Piece) → In o pieces
         → Blocks net reach space layer a o → ⊥
-    clash a h o i b =
-        refuted (in_way (ask net reach space layer a) o)
-        (all_of_says (λ v. not (in_way (ask net reach space layer a) v)) pieces h o i)
+    clash a h o i b = refuted _ (all_of_says (λ v. not (in_way (ask net reach space layer a) v)) pieces h o i)
         (blocked net reach space layer a o b)
 
 -- or of one that is
@@ -73,25 +86,23 @@ Lined size qs z = (n : ℕ) → z ≡ pos n → n ≤ size → T (mem n qs)
 module _ (qs : List ℕ) (size : ℕ) where
   low_stays : (low : ℤ) (b b' : ℕ) → Lined size qs low → b' ≤ size → NoLine qs b b' → T (lt_z low (pos b')) → T (lt_z low (pos b))
   low_stays (pos n) b b' line within clear h =
-      let lt : n < b' = ltb→lt n b' h in
-      elim (cases_lt n b) [ inl k ↦ lt→ltb n b k | inr ge ↦ absurd (clear n (line n refl (omega arith)) ge lt) ]
+      let lt : n < b' = ltb→lt _ _ h in
+      elim (cases_lt n b) [ inl k ↦ lt→ltb _ _ k | inr ge ↦ absurd (clear n (line n refl (omega arith)) ge lt) ]
   low_stays (negsuc n) b b' line within clear h = tt
 
   high_stays : (high : ℤ) (a a' : ℕ) → Lined size qs high → a ≤ size → NoLine qs (suc a') (suc a) → T (lt_z (pos a') high)
       → T (lt_z (pos a) high)
   high_stays (pos n) a a' line within clear h =
-      let lt : a' < n = ltb→lt a' n h in
-      elim (cases_lt a n) [ inl k ↦ lt→ltb a n k | inr ge ↦ absurd (clear n (line n refl (omega arith)) lt (omega arith)) ]
+      let lt : a' < n = ltb→lt _ _ h in
+      elim (cases_lt a n) [ inl k ↦ lt→ltb _ _ k | inr ge ↦ absurd (clear n (line n refl (omega arith)) lt (omega arith)) ]
   high_stays (negsuc n) a a' line within clear h = absurd h
 
   -- an open span with lined borders crosses what has grown over no line only if it did before
   crosses_stays : (z : Span) (a b a' b' : ℕ) → Lined size qs z.low → Lined size qs z.high → a ≤ size → b' ≤ size
       → NoLine qs b b' → NoLine qs (suc a') (suc a)
       → T (crosses z (record { low = pos a'; high = pos b' })) → T (crosses z (record { low = pos a; high = pos b }))
-  crosses_stays z a b a' b' low high fa fb up down h =
-      both (lt_z z.low (pos b)) (lt_z (pos a) z.high)
-      (low_stays z.low b b' low fb up (left (lt_z z.low (pos b')) (lt_z (pos a') z.high) h))
-      (high_stays z.high a a' high fa down (right (lt_z z.low (pos b')) (lt_z (pos a') z.high) h))
+  crosses_stays z a b a' b' low high fa fb up down h = both _ _ (low_stays z.low b b' low fb up (left _ _ h))
+      (high_stays z.high a a' high fa down (right _ _ h))
 
 -- The borders of the zones along an axis are lines, of all pieces of a different net.
 abbrev pub ZonesLined : (Rect → Span) → List ℕ → ℕ → ℕ → ℕ → ℕ → List Piece → Type 0
@@ -99,25 +110,11 @@ ZonesLined axis qs size net reach space pieces =
     (o : Piece) → In o pieces → T (different_nets o.net net)
     → Lined size qs (axis (zone o reach space)).low × Lined size qs (axis (zone o reach space)).high
 
-module _ (qs : List ℕ) (size net reach space : ℕ) (pieces : List Piece) where
-  pub free_steady_x : ZonesLined (λ r. r.x) qs size net reach space pieces → Steady qs size (free net reach space pieces)
-  free_steady_x lined l a b a' b' y fa fb up down = free_like net reach space pieces l (wide a b y) (wide a' b' y) (λ o i k.
-      let borders = lined o i k.different in
-      record {
-        same_layer = k.same_layer;
-        different = k.different;
-        on_x = crosses_stays qs size (zone o reach space).x a b a' b' borders.0 borders.1 fa fb up down k.on_x;
-        on_y = k.on_y;
-      })
-
-  pub free_steady_y : ZonesLined (λ r. r.y) qs size net reach space pieces
-      → Steady qs size (λ l r. free net reach space pieces l (flip_rect r))
-  free_steady_y lined l a b a' b' x fa fb up down =
-      free_like net reach space pieces l (flip_rect (wide a b x)) (flip_rect (wide a' b' x)) (λ o i k.
-      let borders = lined o i k.different in
-      record {
-        same_layer = k.same_layer;
-        different = k.different;
-        on_x = k.on_x;
-        on_y = crosses_stays qs size (zone o reach space).y a b a' b' borders.0 borders.1 fa fb up down k.on_y;
-      })
+pub free_steady : (axis : Axis) (qs : List ℕ) (size net reach space : ℕ) (pieces : List Piece)
+    → ZonesLined (axis_of axis) qs size net reach space pieces
+    → Steady qs size (λ l r. free net reach space pieces l (turn axis r))
+free_steady axis qs size net reach space pieces lined l a b a' b' y fa fb up down =
+    free_like net reach space pieces l (turn axis (wide a b y)) (turn axis (wide a' b' y)) (λ o i k.
+    let borders = lined o i k.different in
+    in_place axis _ _ y
+    (crosses_stays qs size (axis_of axis (zone o reach space)) a b a' b' borders.0 borders.1 fa fb up down (on_axis axis _ y k)) k)
