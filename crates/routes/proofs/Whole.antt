@@ -1,5 +1,6 @@
 -- Moves that continue one another straight on are one run. Assumes nothing.
-use Rattle.std.proofs.Common.{◌≡◌, ℕ, ◌≤◌, Bool, true, false, cond, not, T, eqb, ltb, List, [], ◌∷◌, sym, refl, ap, ◌∙◌, subst, inl, inr, arith, eqb→eq}
+use Rattle.std.proofs.Common.{◌≡◌, ℕ, ◌≤◌, Bool, true, false, cond, not, T, eqb, ltb, List, [], ◌∷◌, sym, refl, ap, ◌∙◌, subst, inl, inr, arith, rules, eqb→eq}
+use Rattle.std.proofs.lemmas.Bool.Decides.{nat_tests}
 use Rattle.std.proofs.lemmas.Bool.{cases_Bool, cases_lt, lt-ltb, le-ltb, ltb-true, ltb-false, eq-eqb}
 use Rattle.geometry.specs.declared.point.Point.{Point}
 use Rattle.costs.specs.Amounts.{Tariff}
@@ -12,25 +13,17 @@ use Rattle.routes.proofs.Splits.{JoinsFree, Split, Amid, split_x, split_y, split
 
 -- headings of the two axes differ
 other_axis : (a b : Bool) → T (eqb (cond a 1 2) (cond b 3 4)) → ⊥
-other_axis true true h = h
-other_axis true false h = h
-other_axis false true h = h
-other_axis false false h = h
+other_axis a b h = grind (arith, nat_tests)
 
 other_axis_back : (a b : Bool) → T (eqb (cond a 3 4) (cond b 1 2)) → ⊥
-other_axis_back true true h = h
-other_axis_back true false h = h
-other_axis_back false true h = h
-other_axis_back false false h = h
+other_axis_back a b h = grind (arith, nat_tests)
 
 -- a via has no heading
 no_heading_x : (a : Bool) → T (eqb (cond a 1 2) 0) → ⊥
-no_heading_x true h = h
-no_heading_x false h = h
+no_heading_x a h = grind (arith, nat_tests)
 
 no_heading_y : (a : Bool) → T (eqb (cond a 3 4) 0) → ⊥
-no_heading_y true h = h
-no_heading_y false h = h
+no_heading_y a h = search rules
 
 -- the same heading of two runs along one axis, whose headings are u and d, is the same way
 same_way : (u d : ℕ) → (u ≡ d → ⊥) → (a b : Bool) → T (eqb (cond a u d) (cond b u d)) → a ≡ b
@@ -41,10 +34,7 @@ same_way u d ne false false h = refl
 
 -- the first of two runs the same way ends amid the whole
 amid : (a q b : ℕ) → ltb a q ≡ ltb q b → (a ≡ q → ⊥) → (q ≡ b → ⊥) → Amid a q b
-amid a q b e ne ne' = elim (cases_lt a q) [
-  | inl lt ↦ inl (lt, ltb-true q b (sym e ∙ lt-ltb a q lt))
-  | inr ge ↦ let down : b ≤ q = ltb-false q b (sym e ∙ le-ltb a q ge) in inr (omega arith, omega arith)
-]
+amid a q b e ne ne' = grind (arith, nat_tests)
 
 goes_apart : (a b : ℕ) → T (not (eqb (gap a b) 0)) → a ≡ b → ⊥
 goes_apart a b go e = refuted _ go (subst T (sym (eq-eqb (gap a b) 0 (omega arith))) tt)
