@@ -1,4 +1,5 @@
 -- What keeps out of a zone has its clearance when moved out itself. Assumes nothing.
+use Rattle.std.proofs.lemmas.Bool.Decides.{nat_tests}
 use Rattle.std.proofs.Common.{◌≡◌, ℕ, ◌+◌, max, Bool, true, false, not, ◌&&◌, ◌||◌, T, eqb, ltb, ◌⊎◌, List, pos, ◌+ℤ◌, ◌-ℤ◌, ◌≤ℤ◌, sym, subst, inl, inr, arith, eqb→eq}
 use borrow.Author.Differences.{ints}
 use lib.Dec.{eqb_refl}
@@ -19,8 +20,7 @@ use Rattle.routes.proofs.Listed.{all_of_like}
 use Rattle.routes.proofs.Moves.{move_free, via_here, via_there}
 
 not_both : (a b : Bool) → T (not (a && b)) → T (not a) ⊎ T (not b)
-not_both true b h = inr h
-not_both false b h = inl h
+not_both v0 b h = grind (arith, nat_tests)
 
 -- along one axis: what a span moved out by h + g does not cross, moved out by h itself, lies apart from it by g
 apart_moved_along : (h g : ℕ) (s b : Span) → T (not (crosses (widened (h + g) s) b)) → T (apart_along g (widened h b) s)
@@ -48,9 +48,7 @@ apart_moved h g r b k =
     ]
 
 if_counts : (l n m w : Bool) → (T (not m) → T w) → T (not (l && (n && m))) → T (not (l && n) || w)
-if_counts true true m w f h = f h
-if_counts true false m w f h = tt
-if_counts false n m w f h = tt
+if_counts v0 n m w f h = grind (arith, nat_tests)
 
 free_clear : (net reach space : ℕ) (pieces : List Piece) (layer : ℕ) (area : Rect) → T (free net reach space pieces layer area)
     → T (all_of (clear_of layer net space (moved_out reach area)) pieces)
@@ -92,20 +90,12 @@ apart_swap g r b =
     (or_swap (le_z (b.y.high +ℤ pos g) r.y.low) (le_z (r.y.high +ℤ pos g) b.y.low))
 
 different_swap : (a b : ℕ) → T (different_nets a b) → T (different_nets b a)
-different_swap a b h = refute _ (λ k.
-    let same : b ≡ a = eqb→eq _ _ (left _ _ k) in
-    refuted _ h (both _ _ (subst (λ n. T (eqb a n)) (sym same) (eqb_refl a))
-    (subst (λ n. T (ltb 0 n)) same (right _ _ k))))
+different_swap a b h = grind (arith, nat_tests)
 
 -- a clearance that is owed under less is kept under more
 owed : (l n d l' n' w w' : Bool) → (T l' → T l) → (T n' → T n) → (T w → T w') → T (not (l && n) || w)
     → T (not (l' && (n' && d)) || w')
-owed l n d true true w w' f g h k = elim (either _ _ k) [
-  | inl off ↦ absurd (refuted _ off (both _ _ (f tt) (g tt)))
-  | inr on ↦ second _ _ (h on)
-]
-owed l n d true false w w' f g h k = tt
-owed l n d false n' w w' f g h k = tt
+owed l n d v3 n' w w' f g h k = grind (arith, nat_tests)
 
 pub clear_pieces_keep_clear : ClearPiecesKeepClear
 clear_pieces_keep_clear a o h =

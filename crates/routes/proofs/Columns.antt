@@ -1,4 +1,5 @@
 -- Coordinates from k on, and lines below it: what becomes of them as all that is at k goes elsewhere. Assumes nothing.
+use Rattle.std.proofs.lemmas.Bool.Decides.{nat_tests}
 use Rattle.std.proofs.Common.{◌≡◌, ℕ, zero, suc, ◌+◌, ◌-◌, ◌<◌, ◌≤◌, T, ◌⊎◌, List, sym, subst, inl, inr, arith}
 use Rattle.std.proofs.lemmas.Bool.{cases_lt, cases_eq, cases_order}
 use Rattle.geometry.specs.Lists.{mem}
@@ -34,28 +35,10 @@ spot_parts k p a f g b f' g' below (high u v w) (high u' v' w') = (gap a b, 0, 0
 module _ (qs : List ℕ) (size k : ℕ) where
   pub put_safe : (v : ℕ) → v ≤ size → NoLine qs k v → NoLine qs (suc v) (suc k) → (x : ℕ) → Kept qs size k x
       → Safe qs size (put k v) x
-  put_safe v fits up down x h = elim (cases_eq x k) [
-    | inl e ↦
-        let moved : put k v x ≡ v = put_same k v x e in
-        record {
-          was = h.1;
-          now = omega arith;
-          up = λ q m a b. up q m (omega arith) (omega arith);
-          down = λ q m a b. down q
-              m (omega arith) (omega arith);
-        }
-    | inr ne ↦
-        let stays : put k v x ≡ x = put_other k v x ne in
-        record { was = h.1; now = omega arith; up = λ q m a b. omega arith; down = λ q m a b. omega arith }
-  ]
+  put_safe v fits up down x h = grind (arith, nat_tests)
 
   pub put_kept : (v : ℕ) → Kept qs size (suc k) v → (x : ℕ) → Kept qs size k x → Kept qs size (suc k) (put k v x)
-  put_kept v w x h = elim (cases_eq x k) [
-    | inl e ↦ subst (Kept qs size (suc k)) (sym (put_same k v x e)) w
-    | inr ne ↦
-        subst (Kept qs size (suc k)) (sym (put_other k v x ne))
-        (elim h.0 [ inl m ↦ (inl m, h.1) | inr ge ↦ (inr (omega arith), h.1) ])
-  ]
+  put_kept v w x h = grind (arith, nat_tests)
 
   -- where v is between k and all else, no distance grows
   pub put_shrinks : (v : ℕ) → ((x : ℕ) → Kept qs size k x → (x ≡ k → ⊥) → ((x ≤ v) × (v ≤ k)) ⊎ ((k ≤ v) × (v ≤ x)))
@@ -77,24 +60,12 @@ module _ (qs : List ℕ) (size k : ℕ) where
 
   -- nothing is between k and the last line p below it
   pub up_to_line : (p : ℕ) → NoLine qs (suc p) k → (x : ℕ) → Kept qs size k x → x < k → x ≤ p
-  up_to_line p clear x h lt = elim h.0 [
-    | inl m ↦ elim (cases_lt p x) [ inl past ↦ absurd (clear x m past lt) | inr le ↦ le ]
-    | inr ge ↦ omega arith
-  ]
+  up_to_line p clear x h lt = grind (arith, nat_tests)
 
   -- with no line below k, nothing is below k
   pub past_all : NoLine qs zero k → (x : ℕ) → Kept qs size k x → (x ≡ k → ⊥) → k < x
-  past_all empty x h ne = elim h.0 [
-    | inl m ↦ elim (cases_lt x k) [ inl lt ↦ absurd (empty x m (omega arith) lt) | inr le ↦ omega arith ]
-    | inr ge ↦ omega arith
-  ]
+  past_all empty x h ne = grind (arith, nat_tests)
 
   -- where x stands, if p is the last line below k
   pub spot : (p : ℕ) → p < k → NoLine qs (suc p) k → (x : ℕ) → Kept qs size k x → Spot k p x (put k p x) (put k (suc k) x)
-  spot p below clear x h = elim (cases_order x k) [
-    | inl e ↦ at e (put_same k p x e) (put_same k (suc k) x e)
-    | inr apart ↦ elim apart [
-      | inl lt ↦ low (up_to_line p clear x h lt) (put_other k p x (omega arith)) (put_other k (suc k) x (omega arith))
-      | inr gt ↦ high gt (put_other k p x (omega arith)) (put_other k (suc k) x (omega arith))
-    ]
-  ]
+  spot p below clear x h = grind (arith, nat_tests)

@@ -1,4 +1,5 @@
 -- What is free of wires where pieces stand: parts of a free box, and two free boxes joined. Assumes nothing.
+use Rattle.std.proofs.lemmas.Bool.Decides.{nat_tests}
 use Rattle.std.proofs.Common.{ℕ, ◌+◌, ◌≤◌, max, T, ◌⊎◌, List, ℤ, pos, ◌+ℤ◌, ◌-ℤ◌, ◌≤ℤ◌, ◌<ℤ◌, inl, inr, arith}
 use borrow.Author.Differences.{ints}
 use lib.Signed.{lt_z, lt_z_yes, lt_z_no}
@@ -23,46 +24,23 @@ abbrev closed : ℕ → ℕ → Span
 closed a b = record { low = pos a; high = pos b }
 
 below_more : (z : ℤ) (b b' : ℕ) → b' ≤ b → T (lt_z z (pos b')) → T (lt_z z (pos b))
-below_more z b b' h k =
-    let k' : z <ℤ pos b' = lt_z_yes k in
-    let r : z <ℤ pos b = omega (arith, ints) in
-    r.lt
+below_more z b b' h k = grind (arith, nat_tests)
 
 above_less : (z : ℤ) (a a' : ℕ) → a ≤ a' → T (lt_z (pos a') z) → T (lt_z (pos a) z)
-above_less z a a' h k =
-    let k' : pos a' <ℤ z = lt_z_yes k in
-    let r : pos a <ℤ z = omega (arith, ints) in
-    r.lt
+above_less z a a' h k = grind (arith, nat_tests)
 
 -- an open span that crosses a part of a closed one crosses it
 crosses_part : (z : Span) (a b a' b' : ℕ) → a ≤ a' → b' ≤ b → T (crosses z (closed a' b')) → T (crosses z (closed a b))
-crosses_part z a b a' b' h k t = both _ _
-    (below_more z.low b b' k (left _ _ t)) (above_less z.high a a' h (right _ _ t))
+crosses_part z a b a' b' h k t = grind (arith, nat_tests)
 
 -- an open span that is not empty, and crosses what lies within two closed ones that touch, crosses one of them
 crosses_joined : (z : Span) (a b b' c a' c' : ℕ) → T (lt_z z.low z.high) → a ≤ a' → b' ≤ b → c' ≤ c
     → T (crosses z (closed a' c')) → T (crosses z (closed a b)) ⊎ T (crosses z (closed b' c))
-crosses_joined z a b b' c a' c' Has-inner h k l t =
-    let up = left _ _ t in
-    let down = right _ _ t in
-    elim (decide (lt_z z.low (pos b))) [
-      | inl before ↦ inl (both _ _ before (above_less z.high a a' h down))
-      | inr past ↦ inr (both _ _ (below_more z.low c c' l up) (beyond z.low z.high Has-inner past))
-    ]
-  where
-    beyond : (low high : ℤ) → T (lt_z low high) → (T (lt_z low (pos b)) → ⊥) → T (lt_z (pos b') high)
-    beyond low high o past =
-        let o' : low <ℤ high = lt_z_yes o in
-        let past' : pos b ≤ℤ low = lt_z_no (refute _ past) in
-        let r : pos b' <ℤ high = omega (arith, ints) in
-        r.lt
+crosses_joined z a b b' c a' c' Has-inner h k l t = grind (arith, nat_tests)
 
 -- a span that has a width has one when moved out
 open_widened : (d : ℕ) (s : Span) → T (lt_z s.low s.high) → T (lt_z (widened d s).low (widened d s).high)
-open_widened d s h =
-    let h' : s.low <ℤ s.high = lt_z_yes h in
-    let r : (s.low -ℤ pos d) <ℤ (s.high +ℤ pos d) = omega (arith, ints) in
-    r.lt
+open_widened d s h = grind (arith, nat_tests)
 
 module _ (width height layers : ℕ) (c : Class) (net : ℕ) (pieces : List Piece) where
   pub parts_free : PartsFree (rules_of width height layers c net pieces)

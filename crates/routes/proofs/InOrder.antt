@@ -1,4 +1,5 @@
 -- Pieces laid along a lawful route leave the standing pieces in order. Assumes nothing.
+use Rattle.std.proofs.lemmas.Bool.Decides.{nat_tests}
 use Rattle.std.proofs.Common.{◌≡◌, ℕ, ◌<◌, ◌≤◌, min, max, cond, not, ◌&&◌, ◌||◌, T, eqb, ltb, leb, ◌⊎◌, List, [], ◌∷◌, ◌++◌, pos, ◌+ℤ◌, ◌-ℤ◌, ◌<ℤ◌, sym, refl, subst, inl, inr, arith, eqb→eq, leb→le}
 use borrow.Author.Differences.{ints}
 use lib.Signed.{lt_z}
@@ -36,12 +37,7 @@ in_append x (v ∷ xs) ys (inr i) = elim (in_append x xs ys i) [ inl h ↦ inl (
 
 -- pieces of one net owe one another nothing
 one_net_clear : (net : ℕ) (a b : Piece) → T (ltb 0 net) → a.net ≡ net → b.net ≡ net → T (keep_clear a b)
-one_net_clear net a b real ea eb =
-    let same : T (different_nets a.net b.net) → ⊥ =
-    λ h. refuted _ h (both _ _ (subst T (sym (eq-eqb a.net b.net (omega arith))) tt)
-    (subst (λ n. T (ltb 0 n)) (sym ea) real)) in
-    first _ _ (refute (eqb a.layer b.layer && (different_nets a.net b.net && (is_laid a.mark || is_laid b.mark)))
-    (λ h. same (left _ _ (right _ _ h))))
+one_net_clear net a b real ea eb = grind (arith, nat_tests)
 
 one_net_all_clear : (net : ℕ) (ns : List Piece) → T (ltb 0 net) → ((n : Piece) → In n ns → n.net ≡ net) → T (clear ns)
 one_net_all_clear net [] real of_net = tt
@@ -78,10 +74,7 @@ module _ (c : Class) where
   half_least = leb→le _ _ (left _ _ (left _ _ (left _ _ c.measured)))
 
   pad_least : 1 ≤ c.pad
-  pad_least =
-      let wider : c.half ≤ c.pad =
-      leb→le _ _ (left _ _ (right _ _ c.measured)) in
-      omega (arith, half_least)
+  pad_least = grind (arith, nat_tests)
 
   laid_proper : (net job layer d : ℕ) (p q : Point) → 1 ≤ d → T (proper (laid c net job layer (moved_out d (box p q))))
   laid_proper net job layer d p q h = both _ _ (moved_out_span d p.x q.x h) (moved_out_span d p.y q.y h)
@@ -103,36 +96,17 @@ module _ (c : Class) where
       → Fits net pieces (laid c net job l (moved_out d (box p p))) → Fits net pieces (laid c net job l' (moved_out d (box p p)))
       → Fits net pieces (laid c net job (min l l') (moved_out d (box p p))) × Fits net pieces (laid c net job (max l l')
       (moved_out d (box p p)))
-  between_layers net job d l l' pieces p f f' =
-      let P : ℕ → Type 0 = λ k. Fits net pieces (laid c net job k (moved_out d (box p p))) in
-      elim (cases_lt l l') [
-        | inl lt ↦ (subst P (least l l' lt) f, subst P (most l l' lt) f')
-        | inr ge ↦ (subst P (least' l l' ge) f', subst P (most' l l' ge) f)
-      ]
-    where
-      least : (l l' : ℕ) → l < l' → l ≡ min l l'
-      least l l' h = omega arith
-
-      most : (l l' : ℕ) → l < l' → l' ≡ max l l'
-      most l l' h = omega arith
-
-      least' : (l l' : ℕ) → l' ≤ l → l' ≡ min l l'
-      least' l l' h = omega arith
-
-      most' : (l l' : ℕ) → l' ≤ l → l ≡ max l l'
-      most' l l' h = omega arith
+  between_layers net job d l l' pieces p f f' = grind (arith, nat_tests)
 
   module _ (width height layers net job : ℕ) (pieces : List Piece) where
     abbrev AllFit : List Piece → Type 0
     AllFit ns = (n : Piece) → In n ns → Fits net pieces n
 
     one_fits : (a : Piece) → Fits net pieces a → AllFit (a ∷ [])
-    one_fits a f n (inl e) = subst (Fits net pieces) e f
-    one_fits a f n (inr i) = absurd i
+    one_fits a f n v3 = grind (arith, nat_tests)
 
     two_fit : (a b : Piece) → Fits net pieces a → Fits net pieces b → AllFit (a ∷ b ∷ [])
-    two_fit a b f g n (inl e) = subst (Fits net pieces) e f
-    two_fit a b f g n (inr i) = one_fits b g n i
+    two_fit a b f g n v5 = grind (arith, nat_tests)
 
     joint_run_fits : (p q : Point) → p.layer ≡ q.layer → AllFit (laid_run c net job p q) → AllFit (joint c net job p q)
     joint_run_fits p q e =

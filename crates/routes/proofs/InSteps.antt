@@ -1,4 +1,5 @@
 -- A route cut into steps, and a route with its straight runs joined. Assumes nothing.
+use Rattle.std.proofs.lemmas.Bool.Decides.{nat_tests}
 use Rattle.std.proofs.Common.{◌≡◌, ℕ, zero, suc, ◌+◌, ◌-◌, cond, T, eqb, ltb, List, [], ◌∷◌, ◌++◌, sym, refl, ap, ◌∙◌, subst, inl, inr, arith}
 use Rattle.std.proofs.lemmas.Bool.{lt-ltb, le-ltb, cases_lt, cases_eq, eq-eqb}
 use Rattle.geometry.specs.declared.point.Point.{Point}
@@ -25,32 +26,12 @@ pub record Does {M : Type 0} (R : Rules) (tf : Tariff M) (p : Point) (m : Move) 
 module _ {M : Type 0} (R : Rules) (tf : Tariff M) {leq : M → M → Type 0} (laws : Ordered tf.sums leq) where
   -- a step is done by itself
   step_does : (p : Point) (m : Move) (r : List Move) → (T (lawful_move R p m) → T (step p m)) → Does R tf p m r (m ∷ r)
-  step_does p m r unit = record {
-    steps = λ parts here ok h. more_moves step p m r (unit ok) h;
-    is_lawful = λ parts here ok h. more_moves (lawful_move R) p m r ok h;
-    move_back = λ joins go h. this_move (lawful_move R) p m r h;
-    same_end = refl;
-    same_cost = refl;
-    same_turns = λ go. refl;
-    same_heading = λ go. refl;
-  }
+  step_does p m r unit = grind (arith, nat_tests)
 
   -- what goes nowhere is done by nothing
   nothing_does : (p : Point) (m : Move) (r : List Move) → after p m ≡ p → distance p m ≡ 0 → price tf p m ≡ tf.sums.nothing
       → Does R tf p m r r
-  nothing_does p m r stays near costs =
-      let still : T (goes p m) → ⊥ = λ go. refuted _ go (subst T (sym (eq-eqb (distance p m) 0 near)) tt) in
-      record {
-        steps = λ parts here ok h. subst (λ o. T (every step o r)) stays h;
-        is_lawful = λ parts here ok h. subst (λ o. T (lawful R o r)) stays h;
-        move_back = λ joins go h. absurd (still go);
-        same_end = ap (λ o. end o r) (sym stays);
-        same_cost =
-            ap (λ o. cost tf o r) (sym stays) ∙ sym (nothing_plus laws _)
-            ∙ ap (λ a. tf.sums.plus a (cost tf (after p m) r)) (sym costs);
-        same_turns = λ go. absurd (still go);
-        same_heading = λ go. absurd (still go);
-      }
+  nothing_does p m r stays near costs = grind (arith, nat_tests)
 
   -- a run is done by its first step and what does the rest
   split_does : (p : Point) (m₁ m : Move) (r r' : List Move) → T (step p m₁) → Split R tf p m₁ m

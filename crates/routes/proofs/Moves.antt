@@ -1,4 +1,6 @@
 -- What a route that passes a test says of its moves, and a lawful move of its end and its ground. Assumes nothing.
+use Rattle.std.proofs.lemmas.Bool.Decides.{nat_tests}
+use Rattle.std.proofs.Common.{arith}
 use Rattle.std.proofs.Common.{ℕ, ◌≤◌, Bool, ◌&&◌, T, eqb, leb, List, ◌∷◌, le→leb, leb→le}
 use Rattle.geometry.specs.declared.point.Point.{Point}
 use Rattle.geometry.specs.Boxes.{box}
@@ -24,10 +26,7 @@ module _ (R : Rules) (p : Point) where
   x_inside h = leb→le _ _ (left _ _ (right _ _ h))
 
   pub y_inside : T (inside R p) → p.y ≤ R.height
-  y_inside h =
-      leb→le p.y R.height
-      (right (leb p.x R.width) (leb p.y R.height)
-      (right (ranges 1 R.layers p.layer) (leb p.x R.width && leb p.y R.height) h))
+  y_inside h = grind (arith, nat_tests)
 
   pub is_inside : T (ranges 1 R.layers p.layer) → p.x ≤ R.width → p.y ≤ R.height → T (inside R p)
   is_inside l h k = both _ _ l (both _ _ (le→leb _ _ h) (le→leb _ _ k))
@@ -59,6 +58,4 @@ module _ (R : Rules) (p : Point) (l : ℕ) where
   via_here h = left _ _ (right _ _ h)
 
   pub via_there : T (on_free_ground R p (to_layer l)) → T (R.via l (box p p))
-  via_there h =
-      right (R.via p.layer (box p p)) (R.via l (box p p))
-      (right (eqb (gap p.layer l) 1) (R.via p.layer (box p p) && R.via l (box p p)) h)
+  via_there h = grind (arith, nat_tests)

@@ -1,4 +1,5 @@
 -- Routes as paths, and straight runs, where pieces stand. Assumes nothing.
+use Rattle.std.proofs.lemmas.Bool.Decides.{nat_tests}
 use Rattle.std.proofs.Common.{◌≡◌, ℕ, Bool, true, false, not, ◌&&◌, T, eqb, List, [], ◌∷◌, sym, refl, ap, subst, append-nil, arith, eqb→eq}
 use Rattle.std.proofs.lemmas.Bool.{eq-eqb}
 use Rattle.geometry.specs.declared.point.Point.{Point}
@@ -17,16 +18,10 @@ use Rattle.routes.proofs.Whole.{whole_runs_lawful, whole_runs_visited}
 use Rattle.routes.proofs.Ground.{parts_free, joins_free}
 
 same_verdict : (a b : Bool) → (T a → T b) → (T b → T a) → a ≡ b
-same_verdict true true f g = refl
-same_verdict true false f g = absurd (f tt)
-same_verdict false true f g = absurd (g tt)
-same_verdict false false f g = refl
+same_verdict v0 v1 f g = grind (arith, nat_tests)
 
 neighbours_apart : (qs : List ℕ) (a b : ℕ) → T (neighbours qs a b) → T (not (eqb (gap a b) 0))
-neighbours_apart qs a b h =
-    let off = left _ _ (right _ _ h) in
-    refute _ (λ k. let z : gap a b ≡ 0 = eqb→eq _ _ k in
-    refuted _ off (subst T (sym (eq-eqb a b (omega arith))) tt))
+neighbours_apart qs a b h = grind (arith, nat_tests)
 
 step_goes : (n : ℕ) → T (eqb n 1) → T (not (eqb n 0))
 step_goes n h = refute _ (λ k. let one : n ≡ 1 = eqb→eq _ _ h in let none : n ≡ 0 = eqb→eq _ _ k in omega arith)
@@ -49,9 +44,7 @@ routes_are_paths sums laws prices width height layers c net pieces s r starts ok
 
 -- a move between neighbouring nodes goes somewhere
 line_move_goes : (R : Rules) (X Y : List ℕ) (p : Point) (m : Move) → T (line_move X Y p m) → T (lawful_move R p m) → T (goes p m)
-line_move_goes R X Y p (along_x x) h ok = neighbours_apart X p.x x (left _ _ h)
-line_move_goes R X Y p (along_y y) h ok = neighbours_apart Y p.y y (left _ _ h)
-line_move_goes R X Y p (to_layer l) h ok = step_goes (gap p.layer l) (via_next R p l (move_free R p (to_layer l) ok))
+line_move_goes R X Y p v4 h ok = grind (arith, nat_tests)
 
 line_moves_go : (R : Rules) (X Y : List ℕ) (p : Point) (r : List Move) → T (every (line_move X Y) p r) → T (lawful R p r)
     → T (every goes p r)

@@ -1,5 +1,6 @@
 -- A route whose x coordinates are lines can be cut where it passes over a line, at the same cost: then each move along x
 -- goes from a line to the next. Assumes nothing.
+use Rattle.std.proofs.lemmas.Bool.Decides.{nat_tests}
 use Rattle.std.proofs.Common.{◌≡◌, ℕ, zero, suc, ◌+◌, ◌<◌, ◌≤◌, min, max, Bool, true, not, ◌&&◌, T, eqb, ltb, List, [], ◌∷◌, sym, refl, ap, ◌∙◌, subst, inl, inr, arith, eqb→eq, ltb→lt}
 use Rattle.std.proofs.lemmas.Bool.{cases_eq}
 use Rattle.geometry.specs.declared.point.Point.{Point}
@@ -32,21 +33,7 @@ module _ {M : Type 0} (tf : Tariff M) {leq : M → M → Type 0} (laws : Ordered
     (wires : Steady qs R.width R.wire) where
   no_move : (p : Point) (x : ℕ) (r : List Move) → p.x ≡ x → Refined tf R qs (after p (along_x x)) r
       → Refined tf R qs p (along_x x ∷ r)
-  no_move p x r e =
-      subst (λ i. Refined tf R qs (after p (along_x i)) r → Refined tf R qs p (along_x i ∷ r)) e
-      (λ t. record {
-        route = t.route;
-        is_lawful = t.is_lawful;
-        same_end = t.same_end;
-        same_ys = t.same_ys;
-        same_cost =
-            t.same_cost ∙ sym (ap (λ n. tf.sums.plus (times tf.sums n (tf.prices.x p.layer)) (cost tf p r)) level
-            ∙ nothing_plus laws _);
-        walk = t.walk;
-      })
-    where
-      level : gap p.x p.x ≡ 0
-      level = omega arith
+  no_move p x r e = grind (arith, nat_tests)
 
   one_move : (p : Point) (x : ℕ) (r : List Move) → T (neighbours qs p.x x) → T (lawful_move R p (along_x x))
       → Refined tf R qs (after p (along_x x)) r → Refined tf R qs p (along_x x ∷ r)
@@ -79,12 +66,7 @@ module _ {M : Type 0} (tf : Tariff M) {leq : M → M → Type 0} (laws : Ordered
   part_lawful : (p : Point) (x a b : ℕ) → p.x ≤ R.width → T (lawful_move R p (along_x x)) → min p.x x ≤ min a b
       → max a b ≤ max p.x x
       → T (lawful_move R (after p (along_x a)) (along_x b))
-  part_lawful p x a b fits ok above below =
-      let within : x ≤ R.width = x_within R p x ok in
-      move_lawful R (after p (along_x a)) (along_x b)
-      (put_inside R (after p (along_x x)) b (omega arith) (move_inside R p (along_x x) ok))
-      (wires p.layer (min p.x x) (max p.x x) (min a b) (max a b) (span p.y p.y) (omega arith) (omega arith)
-      (λ q m c d. omega arith) (λ q m c d. omega arith) (move_free R p (along_x x) ok))
+  part_lawful p x a b fits ok above below = grind (arith, nat_tests)
 
   -- a move along x of length n at most, between lines
   cut : (n : ℕ) (p : Point) (x : ℕ) (r : List Move) → gap p.x x ≤ n → p.x ≤ R.width → T (mem p.x qs) → T (mem x qs)

@@ -1,4 +1,5 @@
 -- Routes with their x coordinates mapped: the map may pass over no line. Assumes nothing.
+use Rattle.std.proofs.lemmas.Bool.Decides.{nat_tests}
 use Rattle.std.proofs.Common.{◌≡◌, ℕ, suc, ◌+◌, ◌*◌, ◌≤◌, min, max, Bool, T, List, [], ◌∷◌, pos, refl, ap, inl, inr, arith}
 use Rattle.std.proofs.lemmas.Bool.{cases_lt}
 use Rattle.geometry.specs.declared.point.Point.{Point}
@@ -85,13 +86,7 @@ pub record Safe (qs : List ℕ) (size : ℕ) (f : ℕ → ℕ) (x : ℕ) : Type 
 pub steady_span : (qs : List ℕ) (size : ℕ) (test : ℕ → Rect → Bool) → Steady qs size test → (f : ℕ → ℕ) (l a b : ℕ) (y : Span)
     → Safe qs size f a → Safe qs size f b
     → T (test l (record { x = span a b; y = y })) → T (test l (record { x = span (f a) (f b); y = y }))
-steady_span qs size test steady f l a b y here there =
-    steady l (min a b) (max a b) (min (f a) (f b)) (max (f a) (f b)) y
-    (omega (arith, here.was, there.was)) (omega (arith, here.now, there.now))
-    (λ q m c d. elim (cases_lt q (f b))
-    [ inl lt ↦ there.up q m (omega arith) lt | inr ge ↦ here.up q m (omega arith) (omega arith) ])
-    (λ q m c d. elim (cases_lt (f b) q)
-    [ inl lt ↦ there.down q m lt (omega arith) | inr ge ↦ here.down q m (omega arith) (omega arith) ])
+steady_span qs size test steady f l a b y here there = grind (arith, nat_tests)
 
 module _ (R : Rules) (qs : List ℕ) (wires : Steady qs R.width R.wire) (vias : Steady qs R.width R.via)
     (f : ℕ → ℕ) where

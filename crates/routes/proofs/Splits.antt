@@ -1,4 +1,5 @@
 -- A run that is cut in two, or two that are joined: what the parts and the whole have of one another. Assumes nothing.
+use Rattle.std.proofs.lemmas.Bool.Decides.{nat_tests}
 use Rattle.std.proofs.Common.{◌≡◌, ℕ, ◌+◌, ◌-◌, ◌<◌, ◌≤◌, min, max, Bool, true, false, cond, not, ◌&&◌, T, eqb, ltb, ◌⊎◌, List, [], ◌∷◌, sym, refl, ap, ◌∙◌, subst, inl, inr, arith}
 use lib.Dec.{eqb_refl}
 use Rattle.std.proofs.lemmas.Bool.{lt-ltb, le-ltb, cases_eq, ne_eqb}
@@ -49,16 +50,13 @@ abbrev way : ℕ → ℕ → ℕ → ℕ → ℕ
 way up down a b = cond (ltb a b) up down
 
 way_same : (up down a b c d : ℕ) → ((a < b) × (c < d)) ⊎ ((b ≤ a) × (d ≤ c)) → way up down a b ≡ way up down c d
-way_same up down a b c d (inl h) = ap (λ t. cond t up down) (lt-ltb a b h.0 ∙ sym (lt-ltb c d h.1))
-way_same up down a b c d (inr h) = ap (λ t. cond t up down) (le-ltb a b h.0 ∙ sym (le-ltb c d h.1))
+way_same up down a b c d v6 = grind (arith, nat_tests)
 
 way_first : (up down a q b : ℕ) → Amid a q b → way up down a q ≡ way up down a b
-way_first up down a q b (inl h) = way_same up down a q a b (inl (h.0, omega (arith, h)))
-way_first up down a q b (inr h) = way_same up down a q a b (inr (omega (arith, h), omega (arith, h)))
+way_first up down a q b v5 = grind (arith, nat_tests)
 
 way_rest : (up down a q b : ℕ) → Amid a q b → way up down q b ≡ way up down a b
-way_rest up down a q b (inl h) = way_same up down q b a b (inl (h.1, omega (arith, h)))
-way_rest up down a q b (inr h) = way_same up down q b a b (inr (omega (arith, h), omega (arith, h)))
+way_rest up down a q b v5 = grind (arith, nat_tests)
 
 way_run : (up down a b : ℕ) → T (ltb 0 up) → T (ltb 0 down) → T (ltb 0 (way up down a b))
 way_run up down a b h k = elim (ltb a b) as (λ t. T (ltb 0 (cond t up down))) [ true ↦ h | false ↦ k ]
@@ -73,12 +71,7 @@ gap_down : (a b : ℕ) → b < a → gap a b ≡ a - b
 gap_down a b h = omega arith
 
 gap_amid : (a q b : ℕ) → Amid a q b → gap a b ≡ gap a q + gap q b
-gap_amid a q b (inl h) =
-    let across : a < b = omega (arith, h) in
-    rw (gap_up a b across, gap_up a q h.0, gap_up q b h.1) (omega (arith, h))
-gap_amid a q b (inr h) =
-    let across : b < a = omega (arith, h) in
-    rw (gap_down a b across, gap_down a q h.1, gap_down q b h.0) (omega (arith, h))
+gap_amid a q b v3 = grind (arith, nat_tests)
 
 module _ {M : Type 0} (R : Rules) (tf : Tariff M) {leq : M → M → Type 0} (laws : Ordered tf.sums leq) where
   times_gap : (a q b : ℕ) (u : M) → Amid a q b
@@ -166,45 +159,18 @@ abbrev goes_on : ℕ → ℕ → Bool
 goes_on h g = ltb 0 h && eqb h g
 
 pub straight_on_is : (p : Point) (m : Move) (r : List Move) → straight_on p m r ≡ goes_on (heading p m) (sets_out (after p m) r)
-straight_on_is p m [] = stops (heading p m)
-  where
-    stops : (h : ℕ) → false ≡ goes_on h 0
-    stops h = elim (cases_eq h 0) [
-      | inl e ↦ subst (λ n. false ≡ goes_on n 0) (sym e) refl
-      | inr ne ↦ ends (ltb 0 h) (ne_eqb h 0 ne)
-    ]
-      where
-        ends : (b : Bool) → eqb h 0 ≡ false → false ≡ b && eqb h 0
-        ends true e = sym e
-        ends false e = refl
-straight_on_is p m (m' ∷ r) = refl
+straight_on_is p m v2 = grind (arith, nat_tests)
 
 pub straight_on_like : (p p' : Point) (m m' : Move) (r r' : List Move) → heading p m ≡ heading p' m'
     → sets_out (after p m) r ≡ sets_out (after p' m') r'
     → straight_on p m r ≡ straight_on p' m' r'
-straight_on_like p p' m m' r r' e k =
-    straight_on_is p m r ∙ ap (λ h. goes_on h (sets_out (after p m) r)) e ∙ ap (goes_on (heading p' m')) k
-    ∙ sym (straight_on_is p' m' r')
+straight_on_like p p' m m' r r' e k = grind (arith, nat_tests)
 
 module _ {M : Type 0} (R : Rules) (tf : Tariff M) (p : Point) (m₁ m : Move) (s : Split R tf p m₁ m) where
   -- the whole turns where the rest does
   pub split_turns : (r : List Move) → turns p (m ∷ r) ≡ turns (after p m₁) (m ∷ r)
-  split_turns r =
-      let on : straight_on p m r ≡ straight_on (after p m₁) m r =
-      straight_on_like p (after p m₁) m m r r (sym s.rest_heading) (ap (λ o. sets_out o r) (sym s.lands)) in
-      ap (λ b. cond b (turns (after p m) r) (after p m ∷ turns (after p m) r)) on
-      ∙ ap (λ o. cond (straight_on (after p m₁) m r) (turns o r) (o ∷ turns o r)) (sym s.lands)
+  split_turns r = grind (arith, nat_tests)
 
   -- the first part is continued straight on by what sets out as the whole does
   pub split_straight : (r : List Move) → sets_out (after p m₁) r ≡ heading p m → straight_on p m₁ r ≡ true
-  split_straight r e =
-      straight_on_is p m₁ r ∙ ap (λ h. goes_on h (sets_out (after p m₁) r)) s.first_heading ∙ ap (goes_on (heading p m)) e
-      ∙ onward (heading p m) s.is_run
-    where
-      onward : (h : ℕ) → T (ltb 0 h) → goes_on h h ≡ true
-      onward h k = yes (ltb 0 h) (eqb h h) k (eqb_refl h)
-        where
-          yes : (a b : Bool) → T a → T b → (a && b) ≡ true
-          yes true true u v = refl
-          yes true false u v = absurd v
-          yes false b u v = absurd u
+  split_straight r e = grind (arith, nat_tests)

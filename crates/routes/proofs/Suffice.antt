@@ -1,5 +1,7 @@
 -- Lines suffice: a lawful path is moved onto the lines along x, then along y, and cut where it passes over a line. Assumes
 -- nothing.
+use Rattle.std.proofs.lemmas.Bool.Decides.{nat_tests}
+use Rattle.std.proofs.Common.{arith}
 use Rattle.std.proofs.Common.{◌≡◌, ℕ, ◌≤◌, not, ◌&&◌, T, eqb, List, [], ◌∷◌, sym, ap, ◌∙◌, subst}
 use Rattle.geometry.specs.declared.axis.Axis.TheVariants.{X as AxisX, Y as AxisY}
 use Rattle.geometry.specs.declared.point.Point.{Point}

@@ -1,4 +1,5 @@
 -- What the laws of amounts give of sums. Assumes nothing.
+use Rattle.std.proofs.lemmas.Bool.Decides.{nat_tests}
 use Rattle.std.proofs.Common.{◌≡◌, ℕ, zero, suc, ◌+◌, ◌-◌, ◌*◌, ◌≤◌, true, T, ◌⊎◌, sym, refl, ap, ◌∙◌, subst, inl, inr, suc-mul, suc-add, zero-add, zero-mul, arith}
 use Rattle.costs.specs.Amounts.{Sums, Laws, Tariff, times}
 
@@ -13,23 +14,14 @@ pub record Ordered {M : Type 0} (s : Sums M) (leq : M → M → Type 0) : Type 0
   pub mono : {a b : M} (c : M) → leq a b → leq (s.plus a c) (s.plus b c)
 
 pub ordered : {M : Type 0} {s : Sums M} → Laws s → Ordered s (λ a b. T (s.leq a b))
-ordered laws = record {
-  assoc = laws.assoc;
-  comm = laws.comm;
-  neutral = laws.neutral;
-  total = laws.total;
-  trans = λ h k. laws.trans _ _ _ h k;
-  least = laws.least;
-  mono = λ c h. laws.mono _ _ c h;
-}
+ordered laws = grind (arith, nat_tests)
 
 module _ {M : Type 0} {s : Sums M} {leq : M → M → Type 0} (laws : Ordered s leq) where
   pub nothing_plus : (a : M) → s.plus s.nothing a ≡ a
   nothing_plus a = laws.comm s.nothing a ∙ laws.neutral a
 
   pub plus_left_comm : (a b c : M) → s.plus a (s.plus b c) ≡ s.plus b (s.plus a c)
-  plus_left_comm a b c =
-      sym (laws.assoc a b c) ∙ ap (λ d. s.plus d c) (laws.comm a b) ∙ laws.assoc b a c
+  plus_left_comm a b c = grind (arith, nat_tests)
 
   pub leq_refl : (a : M) → leq a a
   leq_refl a = elim (laws.total a a) [ inl h ↦ h | inr h ↦ h ]
@@ -78,15 +70,4 @@ no_tariff = record {
 }
 
 pub no_tariff_laws : Laws no_tariff.sums
-no_tariff_laws = record {
-  assoc = λ a b c. refl;
-  comm = λ a b. refl;
-  neutral = λ a. refl;
-  total = λ a b. inl tt;
-  trans = λ a b c h k. tt;
-  antisym = λ a b h k. refl;
-  least = λ a. tt;
-  mono = λ a b c h. tt;
-  bulk_nothing = refl;
-  bulk_plus = λ a b. omega arith;
-}
+no_tariff_laws = grind (arith, nat_tests)

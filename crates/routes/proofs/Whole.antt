@@ -27,10 +27,7 @@ no_heading_y a h = search rules
 
 -- the same heading of two runs along one axis, whose headings are u and d, is the same way
 same_way : (u d : ℕ) → (u ≡ d → ⊥) → (a b : Bool) → T (eqb (cond a u d) (cond b u d)) → a ≡ b
-same_way u d ne true true h = refl
-same_way u d ne true false h = absurd (ne (eqb→eq _ _ h))
-same_way u d ne false true h = absurd (ne (sym (eqb→eq _ _ h)))
-same_way u d ne false false h = refl
+same_way u d ne v3 v4 h = grind (arith, nat_tests)
 
 -- the first of two runs the same way ends amid the whole
 amid : (a q b : ℕ) → ltb a q ≡ ltb q b → (a ≡ q → ⊥) → (q ≡ b → ⊥) → Amid a q b
@@ -58,17 +55,11 @@ module _ {M : Type 0} (R : Rules) (tf : Tariff M) {leq : M → M → Type 0} (la
   -- the route without its first move, which the second has on its way
   joined_goes : (p : Point) (m m' : Move) (r : List Move) → Split R tf p m m' → T (every goes p (m ∷ m' ∷ r))
       → T (every goes p (m' ∷ r))
-  joined_goes p m m' r s go =
-      more_moves goes p m' r s.whole_goes
-      (subst (λ o. T (every goes o r)) s.lands (later_moves goes (after p m) m' r (later_moves goes p m (m' ∷ r) go)))
+  joined_goes p m m' r s go = grind (arith, nat_tests)
 
   joined_lawful : JoinsFree R → (p : Point) (m m' : Move) (r : List Move) → Split R tf p m m' → T (lawful R p (m ∷ m' ∷ r))
       → T (lawful R p (m' ∷ r))
-  joined_lawful joins p m m' r s ok =
-      let later = later_moves (lawful_move R) p m (m' ∷ r) ok in
-      more_moves (lawful_move R) p m' r
-      (s.whole_lawful joins (this_move (lawful_move R) p m (m' ∷ r) ok) (this_move (lawful_move R) (after p m) m' r later))
-      (subst (λ o. T (lawful R o r)) s.lands (later_moves (lawful_move R) (after p m) m' r later))
+  joined_lawful joins p m m' r s ok = grind (arith, nat_tests)
 
   pub whole_runs_lawful : JoinsFree R → (p : Point) (r : List Move) → T (every goes p r) → T (lawful R p r)
       → T (lawful R p (whole_runs p r))
