@@ -83,11 +83,7 @@ or_both : (a b a' b' : Bool) → (T a → T a') → (T b → T b') → T (a || b
 or_both a b a' b' f g h = elim (either _ _ h) [ inl k ↦ first _ _ (f k) | inr k ↦ second _ _ (g k) ]
 
 apart_swap : (g : ℕ) (r b : Rect) → T (apart g r b) → T (apart g b r)
-apart_swap g r b =
-    or_both (apart_along g r.x b.x) (apart_along g r.y b.y) (apart_along g b.x r.x)
-    (apart_along g b.y r.y)
-    (or_swap (le_z (b.x.high +ℤ pos g) r.x.low) (le_z (r.x.high +ℤ pos g) b.x.low))
-    (or_swap (le_z (b.y.high +ℤ pos g) r.y.low) (le_z (r.y.high +ℤ pos g) b.y.low))
+apart_swap g r b = grind (arith, ints)
 
 different_swap : (a b : ℕ) → T (different_nets a b) → T (different_nets b a)
 different_swap a b h = grind (arith, nat_tests)

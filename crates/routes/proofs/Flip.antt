@@ -1,4 +1,5 @@
 -- The same panel and routes with x and y exchanged. Assumes nothing.
+use borrow.Author.Differences.{ints}
 use Rattle.std.proofs.lemmas.Bool.Decides.{nat_tests}
 use Rattle.std.proofs.Common.{arith}
 use Rattle.std.proofs.Common.{◌≡◌, T, List, [], ◌∷◌, refl, ap}

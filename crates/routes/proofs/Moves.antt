@@ -1,4 +1,5 @@
 -- What a route that passes a test says of its moves, and a lawful move of its end and its ground. Assumes nothing.
+use borrow.Author.Differences.{ints}
 use Rattle.std.proofs.lemmas.Bool.Decides.{nat_tests}
 use Rattle.std.proofs.Common.{arith}
 use Rattle.std.proofs.Common.{ℕ, ◌≤◌, Bool, ◌&&◌, T, eqb, leb, List, ◌∷◌, le→leb, leb→le}

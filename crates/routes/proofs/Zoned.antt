@@ -1,4 +1,5 @@
 -- When a piece is in the way, by its zone's borders. Assumes nothing.
+use borrow.Author.Differences.{ints}
 use Rattle.std.proofs.lemmas.Bool.Decides.{nat_tests}
 use Rattle.std.proofs.Common.{◌≡◌, ℕ, suc, ◌<◌, ◌≤◌, not, ◌&&◌, T, eqb, ◌⊎◌, List, ℤ, pos, negsuc, refl, inl, inr, arith, ltb→lt, lt→ltb}
 use lib.Signed.{lt_z}
@@ -28,18 +29,7 @@ pub record Blocks (net reach space layer : ℕ) (area : Rect) (o : Piece) : Type
 
 module _ (net reach space layer : ℕ) (area : Rect) (o : Piece) where
   pub why_blocked : T (in_way (ask net reach space layer area) o) → Blocks net reach space layer area o
-  why_blocked h =
-      let on = eqb o.layer layer in
-      let apart = different_nets o.net net in
-      let x = crosses (zone o reach space).x area.x in
-      let y = crosses (zone o reach space).y area.y in
-      let met = right apart (x && y) (right on (apart && (x && y)) h) in
-      record {
-        same_layer = left _ _ h;
-        different = left _ _ (right on (apart && (x && y)) h);
-        on_x = left _ _ met;
-        on_y = right x y met;
-      }
+  why_blocked h = grind (arith, ints)
 
   pub blocked : Blocks net reach space layer area o → T (in_way (ask net reach space layer area) o)
   blocked b = both _ _ b.same_layer (both _ _ b.different (both _ _ b.on_x b.on_y))
