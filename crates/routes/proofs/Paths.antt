@@ -1,4 +1,5 @@
 -- Routes as paths, and straight runs, where pieces stand. Assumes nothing.
+use Rattle.std.proofs.Common.{rules}
 use borrow.Author.Differences.{ints}
 use Rattle.std.proofs.lemmas.Bool.Decides.{nat_tests}
 use Rattle.std.proofs.Common.{◌≡◌, ℕ, Bool, true, false, not, ◌&&◌, T, eqb, List, [], ◌∷◌, sym, refl, ap, subst, append-nil, arith, eqb→eq}

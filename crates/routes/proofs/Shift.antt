@@ -1,4 +1,5 @@
 -- Routes with their x coordinates mapped: the map may pass over no line. Assumes nothing.
+use Rattle.std.proofs.Common.{rules}
 use borrow.Author.Differences.{ints}
 use Rattle.std.proofs.lemmas.Bool.Decides.{nat_tests}
 use Rattle.std.proofs.Common.{◌≡◌, ℕ, suc, ◌+◌, ◌*◌, ◌≤◌, min, max, Bool, T, List, [], ◌∷◌, pos, refl, ap, inl, inr, arith}

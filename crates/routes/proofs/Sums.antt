@@ -1,4 +1,5 @@
 -- What the laws of amounts give of sums. Assumes nothing.
+use Rattle.std.proofs.Common.{rules}
 use borrow.Author.Differences.{ints}
 use Rattle.std.proofs.lemmas.Bool.Decides.{nat_tests}
 use Rattle.std.proofs.Common.{◌≡◌, ℕ, zero, suc, ◌+◌, ◌-◌, ◌*◌, ◌≤◌, true, T, ◌⊎◌, sym, refl, ap, ◌∙◌, subst, inl, inr, suc-mul, suc-add, zero-add, zero-mul, arith}
