@@ -1,4 +1,5 @@
 -- What keeps out of a zone has its clearance when moved out itself. Assumes nothing.
+use Rattle.std.proofs.lemmas.Grind.{common_steps}
 use Rattle.std.proofs.Common.{rules}
 use Rattle.std.proofs.lemmas.Bool.Decides.{nat_tests}
 use Rattle.std.proofs.Common.{◌≡◌, ℕ, ◌+◌, max, Bool, true, false, not, ◌&&◌, ◌||◌, T, eqb, ltb, ◌⊎◌, List, pos, ◌+ℤ◌, ◌-ℤ◌, ◌≤ℤ◌, sym, subst, inl, inr, arith, eqb→eq}

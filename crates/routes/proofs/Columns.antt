@@ -1,4 +1,5 @@
 -- Coordinates from k on, and lines below it: what becomes of them as all that is at k goes elsewhere. Assumes nothing.
+use Rattle.std.proofs.lemmas.Grind.{common_steps}
 use Rattle.std.proofs.Common.{rules}
 use borrow.Author.Differences.{ints}
 use Rattle.std.proofs.lemmas.Bool.Decides.{nat_tests}

@@ -1,5 +1,6 @@
 -- A route whose x coordinates are lines can be cut where it passes over a line, at the same cost: then each move along x
 -- goes from a line to the next. Assumes nothing.
+use Rattle.std.proofs.lemmas.Grind.{common_steps}
 use Rattle.std.proofs.Common.{rules}
 use borrow.Author.Differences.{ints}
 use Rattle.std.proofs.lemmas.Bool.Decides.{nat_tests}

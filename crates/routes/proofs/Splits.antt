@@ -1,4 +1,5 @@
 -- A run that is cut in two, or two that are joined: what the parts and the whole have of one another. Assumes nothing.
+use Rattle.std.proofs.lemmas.Grind.{common_steps}
 use Rattle.std.proofs.Common.{rules}
 use borrow.Author.Differences.{ints}
 use Rattle.std.proofs.lemmas.Bool.Decides.{nat_tests}

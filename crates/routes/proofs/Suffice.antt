@@ -1,5 +1,6 @@
 -- Lines suffice: a lawful path is moved onto the lines along x, then along y, and cut where it passes over a line. Assumes
 -- nothing.
+use Rattle.std.proofs.lemmas.Grind.{common_steps}
 use Rattle.std.proofs.Common.{rules}
 use borrow.Author.Differences.{ints}
 use Rattle.std.proofs.lemmas.Bool.Decides.{nat_tests}

@@ -1,4 +1,5 @@
 -- Moves that continue one another straight on are one run. Assumes nothing.
+use Rattle.std.proofs.lemmas.Grind.{common_steps}
 use borrow.Author.Differences.{ints}
 use Rattle.std.proofs.Common.{◌≡◌, ℕ, ◌≤◌, Bool, true, false, cond, not, T, eqb, ltb, List, [], ◌∷◌, sym, refl, ap, ◌∙◌, subst, inl, inr, arith, rules, eqb→eq}
 use Rattle.std.proofs.lemmas.Bool.Decides.{nat_tests}
