@@ -1,9 +1,4 @@
 -- Three costs of which the first is never the least. Assumes nothing.
-use Rattle.std.proofs.lemmas.Grind.{common_steps}
-use Rattle.std.proofs.Common.{rules}
-use borrow.Author.Differences.{ints}
-use Rattle.std.proofs.lemmas.Bool.Decides.{nat_tests}
-use Rattle.std.proofs.Common.{arith}
 use Rattle.std.proofs.Common.{◌≡◌, ℕ, suc, ◌+◌, ◌*◌, ◌⊎◌, inl, inr}
 use Rattle.costs.specs.Amounts.{Sums, times}
 use Rattle.routes.proofs.Sums.{Ordered, plus_left_comm, mono_right, times_add, times_mul, times_nothing, times_plus, times_mono}

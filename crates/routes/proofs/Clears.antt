@@ -1,8 +1,6 @@
 -- What keeps out of a zone has its clearance when moved out itself. Assumes nothing.
-use Rattle.std.proofs.lemmas.Grind.{common_steps}
-use Rattle.std.proofs.Common.{rules}
 use Rattle.std.proofs.lemmas.Bool.Decides.{nat_tests}
-use Rattle.std.proofs.Common.{◌≡◌, ℕ, ◌+◌, max, Bool, true, false, not, ◌&&◌, ◌||◌, T, eqb, ltb, ◌⊎◌, List, pos, ◌+ℤ◌, ◌-ℤ◌, ◌≤ℤ◌, sym, subst, inl, inr, arith, eqb→eq}
+use Rattle.std.proofs.Common.{ℕ, ◌+◌, max, Bool, not, ◌&&◌, ◌||◌, T, eqb, ◌⊎◌, List, pos, ◌+ℤ◌, ◌-ℤ◌, ◌≤ℤ◌, subst, inl, inr, arith, eqb→eq}
 use borrow.Author.Differences.{ints}
 use lib.Dec.{eqb_refl}
 use lib.Signed.{lt_z, le_z, lt_z_no}
@@ -17,7 +15,7 @@ use Rattle.geometry.specs.Zones.{widened, moved_out, zone, crosses, meets, is_la
 use Rattle.routes.specs.Routes.{along_x, along_y, to_layer, after}
 use Rattle.routes.specs.Rules.{ask, free, rules_of, clear_of}
 use Rattle.routes.specs.Claims.{RunKeepsClear, ViaKeepsClear, ClearPiecesKeepClear}
-use Rattle.routes.proofs.Bools.{left, right, both, either, first, second, refute, refuted}
+use Rattle.routes.proofs.Bools.{either, first, second}
 use Rattle.routes.proofs.Listed.{all_of_like}
 use Rattle.routes.proofs.Moves.{move_free, via_here, via_there}
 

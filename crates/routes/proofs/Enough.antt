@@ -1,8 +1,4 @@
 -- What it gives that lines are enough: the terminals and the borders of both zones are lines. Assumes nothing.
-use Rattle.std.proofs.lemmas.Grind.{common_steps}
-use Rattle.std.proofs.Common.{rules}
-use borrow.Author.Differences.{ints}
-use Rattle.std.proofs.lemmas.Bool.Decides.{nat_tests}
 use Rattle.std.proofs.Common.{◌≡◌, ℕ, ◌≤◌, Bool, true, false, cond, T, leb, List, [], ◌∷◌, ℤ, pos, negsuc, sym, refl, subst, inl, inr, arith}
 use Rattle.std.proofs.lemmas.Bool.{le-leb}
 use Rattle.geometry.specs.declared.class.Class.{Class}

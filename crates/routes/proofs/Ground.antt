@@ -1,10 +1,7 @@
 -- What is free of wires where pieces stand: parts of a free box, and two free boxes joined. Assumes nothing.
-use Rattle.std.proofs.lemmas.Grind.{common_steps}
-use Rattle.std.proofs.Common.{rules}
 use Rattle.std.proofs.lemmas.Bool.Decides.{nat_tests}
-use Rattle.std.proofs.Common.{ℕ, ◌+◌, ◌≤◌, max, T, ◌⊎◌, List, ℤ, pos, ◌+ℤ◌, ◌-ℤ◌, ◌≤ℤ◌, ◌<ℤ◌, inl, inr, arith}
-use borrow.Author.Differences.{ints}
-use lib.Signed.{lt_z, lt_z_yes, lt_z_no}
+use Rattle.std.proofs.Common.{ℕ, ◌≤◌, T, ◌⊎◌, List, ℤ, pos, inl, inr, arith}
+use lib.Signed.{lt_z}
 use Rattle.geometry.specs.declared.axis.Axis.{Axis}
 use Rattle.geometry.specs.declared.axis.Axis.TheVariants.{X, Y}
 use Rattle.geometry.specs.declared.class.Class.{Class}
@@ -15,7 +12,7 @@ use Rattle.geometry.specs.Clearance.{proper}
 use Rattle.geometry.specs.Lists.{all_of}
 use Rattle.geometry.specs.Zones.{widened, zone, crosses}
 use Rattle.routes.specs.Rules.{rules_of}
-use Rattle.routes.proofs.Bools.{left, right, both, decide, refute}
+use Rattle.routes.proofs.Bools.{left, right}
 use Rattle.routes.proofs.Listed.{In, all_of_says}
 use Rattle.routes.proofs.Shift.{wide}
 use Rattle.routes.proofs.Flip.{turn}

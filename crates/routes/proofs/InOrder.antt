@@ -1,26 +1,22 @@
 -- Pieces laid along a lawful route leave the standing pieces in order. Assumes nothing.
-use Rattle.std.proofs.lemmas.Grind.{common_steps}
-use Rattle.std.proofs.Common.{rules}
 use Rattle.std.proofs.lemmas.Bool.Decides.{nat_tests}
-use Rattle.std.proofs.Common.{◌≡◌, ℕ, ◌<◌, ◌≤◌, min, max, cond, not, ◌&&◌, ◌||◌, T, eqb, ltb, leb, ◌⊎◌, List, [], ◌∷◌, ◌++◌, pos, ◌+ℤ◌, ◌-ℤ◌, ◌<ℤ◌, sym, refl, subst, inl, inr, arith, eqb→eq, leb→le}
+use Rattle.std.proofs.Common.{◌≡◌, ℕ, ◌≤◌, min, max, cond, T, ltb, ◌⊎◌, List, [], ◌∷◌, ◌++◌, pos, ◌+ℤ◌, ◌-ℤ◌, ◌<ℤ◌, sym, refl, subst, inl, inr, arith, eqb→eq, leb→le}
 use borrow.Author.Differences.{ints}
 use lib.Signed.{lt_z}
-use Rattle.std.proofs.lemmas.Bool.{cases_lt, eq-eqb, ne_eqb}
+use Rattle.std.proofs.lemmas.Bool.{eq-eqb, ne_eqb}
 use Rattle.geometry.specs.declared.class.Class.{Class}
 use Rattle.geometry.specs.declared.piece.Piece.{Piece}
 use Rattle.geometry.specs.declared.point.Point.{Point}
 use Rattle.geometry.specs.Boxes.{box}
-use Rattle.geometry.specs.Clearance.{apart, proper, keep_clear, clear, in_order}
+use Rattle.geometry.specs.Clearance.{proper, keep_clear, clear, in_order}
 use Rattle.geometry.specs.Lists.{all_of}
-use Rattle.geometry.specs.Nets.{different_nets}
-use Rattle.geometry.specs.Ranges.{ranges}
-use Rattle.geometry.specs.Zones.{moved_out, is_laid}
+use Rattle.geometry.specs.Zones.{moved_out}
 use Rattle.routes.specs.Routes.{Move, along_x, along_y, to_layer, is_run, after, lawful_move, lawful, gap}
 use Rattle.routes.specs.Turns.{stops, points_of, whole_runs}
 use Rattle.routes.specs.Rules.{rules_of, clear_of}
 use Rattle.routes.specs.Laid.{laid, laid_run, laid_via, joint, laid_from, laid_along}
 use Rattle.routes.specs.Claims.{LaidPiecesKeepOrder}
-use Rattle.routes.proofs.Bools.{left, right, both, first, refute, refuted}
+use Rattle.routes.proofs.Bools.{left, right, both}
 use Rattle.routes.proofs.Listed.{In, all_of_says, all_of_from}
 use Rattle.routes.proofs.Moves.{this_move, later_moves, move_free, via_next}
 use Rattle.routes.proofs.Clears.{run_keeps_clear, via_keeps_clear, clear_pieces_keep_clear}

@@ -1,7 +1,4 @@
 -- A route cut into steps, and a route with its straight runs joined. Assumes nothing.
-use Rattle.std.proofs.lemmas.Grind.{common_steps}
-use Rattle.std.proofs.Common.{rules}
-use borrow.Author.Differences.{ints}
 use Rattle.std.proofs.lemmas.Bool.Decides.{nat_tests}
 use Rattle.std.proofs.Common.{◌≡◌, ℕ, zero, suc, ◌+◌, ◌-◌, cond, T, eqb, ltb, List, [], ◌∷◌, ◌++◌, sym, refl, ap, ◌∙◌, subst, inl, inr, arith}
 use Rattle.std.proofs.lemmas.Bool.{lt-ltb, le-ltb, cases_lt, cases_eq, eq-eqb}
@@ -10,9 +7,8 @@ use Rattle.costs.specs.Amounts.{Tariff, times}
 use Rattle.routes.specs.Routes.{Move, along_x, along_y, to_layer, after, end, every, Rules, inside, lawful_move, lawful}
 use Rattle.routes.specs.Routes.{distance, step, goes, gap, upward, downward, unit_steps, in_steps, price, cost}
 use Rattle.routes.specs.Turns.{heading, straight_on, turns}
-use Rattle.routes.proofs.Bools.{refuted}
 use Rattle.routes.proofs.Moves.{this_move, later_moves, more_moves, move_inside, move_free, via_next}
-use Rattle.routes.proofs.Sums.{Ordered, nothing_plus}
+use Rattle.routes.proofs.Sums.{Ordered}
 use Rattle.routes.proofs.Splits.{PartsFree, JoinsFree, Split, Amid, split_x, split_y, sets_out, split_turns, split_straight}
 use Rattle.routes.proofs.Splits.{straight_on_like}
 

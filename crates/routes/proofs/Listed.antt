@@ -1,9 +1,4 @@
 -- What is in a list, and what a test that all of a list pass says of it. Assumes nothing.
-use Rattle.std.proofs.lemmas.Grind.{common_steps}
-use Rattle.std.proofs.Common.{rules}
-use borrow.Author.Differences.{ints}
-use Rattle.std.proofs.lemmas.Bool.Decides.{nat_tests}
-use Rattle.std.proofs.Common.{arith}
 use Rattle.std.proofs.Common.{◌≡◌, ℕ, Bool, true, false, cond, T, eqb, ◌⊎◌, List, [], ◌∷◌, ◌++◌, filter, sym, refl, subst, inl, inr, eqb→eq}
 use lib.Dec.{eqb_refl}
 use Rattle.geometry.specs.Lists.{all_of, flat, mem, distinct}

@@ -1,10 +1,7 @@
 -- What a route that passes a test says of its moves, and a lawful move of its end and its ground. Assumes nothing.
-use Rattle.std.proofs.lemmas.Grind.{common_steps}
-use Rattle.std.proofs.Common.{rules}
-use borrow.Author.Differences.{ints}
 use Rattle.std.proofs.lemmas.Bool.Decides.{nat_tests}
 use Rattle.std.proofs.Common.{arith}
-use Rattle.std.proofs.Common.{ℕ, ◌≤◌, Bool, ◌&&◌, T, eqb, leb, List, ◌∷◌, le→leb, leb→le}
+use Rattle.std.proofs.Common.{ℕ, ◌≤◌, Bool, T, eqb, List, ◌∷◌, le→leb, leb→le}
 use Rattle.geometry.specs.declared.point.Point.{Point}
 use Rattle.geometry.specs.Boxes.{box}
 use Rattle.geometry.specs.Ranges.{ranges}

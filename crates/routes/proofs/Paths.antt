@@ -1,20 +1,15 @@
 -- Routes as paths, and straight runs, where pieces stand. Assumes nothing.
-use Rattle.std.proofs.lemmas.Grind.{common_steps}
-use Rattle.std.proofs.Common.{rules}
-use borrow.Author.Differences.{ints}
 use Rattle.std.proofs.lemmas.Bool.Decides.{nat_tests}
-use Rattle.std.proofs.Common.{◌≡◌, ℕ, Bool, true, false, not, ◌&&◌, T, eqb, List, [], ◌∷◌, sym, refl, ap, subst, append-nil, arith, eqb→eq}
-use Rattle.std.proofs.lemmas.Bool.{eq-eqb}
+use Rattle.std.proofs.Common.{◌≡◌, ℕ, Bool, not, T, eqb, List, [], ◌∷◌, sym, ap, subst, append-nil, arith, eqb→eq}
 use Rattle.geometry.specs.declared.point.Point.{Point}
-use Rattle.geometry.specs.Lists.{mem}
 use Rattle.costs.specs.Amounts.{Sums, Laws}
-use Rattle.routes.specs.Routes.{Move, along_x, along_y, to_layer, after, every, Rules, lawful_move, lawful, goes, gap, Path}
+use Rattle.routes.specs.Routes.{Move, after, every, Rules, lawful_move, lawful, goes, gap, Path}
 use Rattle.routes.specs.Routes.{unit_steps, in_steps}
 use Rattle.routes.specs.Rules.{rules_of}
-use Rattle.routes.specs.Lines.{none_between, neighbours, line_move}
+use Rattle.routes.specs.Lines.{neighbours, line_move}
 use Rattle.routes.specs.Claims.{at_prices, RoutesArePaths, LineRoutesAreUnitRoutes, StraightRuns, WholeRunsAreLawful}
-use Rattle.routes.proofs.Bools.{left, right, refute, refuted}
-use Rattle.routes.proofs.Moves.{this_move, later_moves, more_moves, move_free, via_next}
+use Rattle.routes.proofs.Bools.{refute}
+use Rattle.routes.proofs.Moves.{this_move, later_moves, more_moves}
 use Rattle.routes.proofs.Sums.{ordered, no_tariff, no_tariff_laws}
 use Rattle.routes.proofs.InSteps.{unit_steps_do, in_steps_steps, in_steps_lawful, in_steps_end, in_steps_cost, in_steps_turns}
 use Rattle.routes.proofs.Whole.{whole_runs_lawful, whole_runs_visited}

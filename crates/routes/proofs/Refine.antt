@@ -1,20 +1,16 @@
 -- A route whose x coordinates are lines can be cut where it passes over a line, at the same cost: then each move along x
 -- goes from a line to the next. Assumes nothing.
-use Rattle.std.proofs.lemmas.Grind.{common_steps}
-use Rattle.std.proofs.Common.{rules}
-use borrow.Author.Differences.{ints}
 use Rattle.std.proofs.lemmas.Bool.Decides.{nat_tests}
-use Rattle.std.proofs.Common.{◌≡◌, ℕ, zero, suc, ◌+◌, ◌<◌, ◌≤◌, min, max, Bool, true, not, ◌&&◌, T, eqb, ltb, List, [], ◌∷◌, sym, refl, ap, ◌∙◌, subst, inl, inr, arith, eqb→eq, ltb→lt}
+use Rattle.std.proofs.Common.{◌≡◌, ℕ, zero, suc, ◌+◌, ◌<◌, ◌≤◌, min, max, Bool, true, ◌&&◌, T, List, [], ◌∷◌, sym, refl, ap, ◌∙◌, inl, inr, arith, eqb→eq, ltb→lt}
 use Rattle.std.proofs.lemmas.Bool.{cases_eq}
 use Rattle.geometry.specs.declared.point.Point.{Point}
-use Rattle.geometry.specs.Boxes.{span}
 use Rattle.geometry.specs.Lists.{mem}
 use Rattle.costs.specs.Amounts.{Tariff, times}
 use Rattle.routes.specs.Routes.{Move, along_x, along_y, to_layer, after, end, Rules, lawful_move, lawful, cost, gap}
-use Rattle.routes.specs.Lines.{none_between, neighbours}
+use Rattle.routes.specs.Lines.{neighbours}
 use Rattle.routes.proofs.Bools.{left, right, both, refute}
-use Rattle.routes.proofs.Moves.{this_move, later_moves, more_moves, move_inside, move_free, move_lawful, put_inside, x_within}
-use Rattle.routes.proofs.Sums.{Ordered, nothing_plus, times_add}
+use Rattle.routes.proofs.Moves.{this_move, later_moves, more_moves, x_within}
+use Rattle.routes.proofs.Sums.{Ordered, times_add}
 use Rattle.routes.proofs.Numbers.{line_between}
 use Rattle.routes.proofs.Shift.{xs, ys, Each, Steady}
 

@@ -1,10 +1,6 @@
 -- A route can be moved until each x coordinate that it goes to is a line, and it costs no more. The coordinates that are
 -- no lines are removed one by one, from the least: all that is at k goes to the last line below k, or all to k + 1.
 -- Assumes nothing.
-use Rattle.std.proofs.lemmas.Grind.{common_steps}
-use Rattle.std.proofs.Common.{rules}
-use borrow.Author.Differences.{ints}
-use Rattle.std.proofs.lemmas.Bool.Decides.{nat_tests}
 use Rattle.std.proofs.Common.{◌≡◌, ℕ, zero, suc, ◌-◌, ◌<◌, ◌≤◌, T, List, [], ◌∷◌, sym, refl, ap, ◌∙◌, subst, inl, inr, arith}
 use Rattle.std.proofs.lemmas.Bool.{cases_lt, cases_eq}
 use Rattle.geometry.specs.declared.point.Point.{Point}

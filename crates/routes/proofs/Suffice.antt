@@ -1,11 +1,6 @@
 -- Lines suffice: a lawful path is moved onto the lines along x, then along y, and cut where it passes over a line. Assumes
 -- nothing.
-use Rattle.std.proofs.lemmas.Grind.{common_steps}
-use Rattle.std.proofs.Common.{rules}
-use borrow.Author.Differences.{ints}
-use Rattle.std.proofs.lemmas.Bool.Decides.{nat_tests}
-use Rattle.std.proofs.Common.{arith}
-use Rattle.std.proofs.Common.{◌≡◌, ℕ, ◌≤◌, not, ◌&&◌, T, eqb, List, [], ◌∷◌, sym, ap, ◌∙◌, subst}
+use Rattle.std.proofs.Common.{◌≡◌, ℕ, ◌≤◌, T, List, [], ◌∷◌, sym, ap, ◌∙◌, subst}
 use Rattle.geometry.specs.declared.axis.Axis.TheVariants.{X as AxisX, Y as AxisY}
 use Rattle.geometry.specs.declared.point.Point.{Point}
 use Rattle.geometry.specs.Axes.{axis_of}
@@ -13,7 +8,7 @@ use Rattle.geometry.specs.Lists.{mem}
 use Rattle.costs.specs.Amounts.{Sums, Laws, Tariff}
 use Rattle.routes.specs.Routes.{Move, along_x, along_y, to_layer, after, end, every, Rules, lawful, cost}
 use Rattle.routes.specs.Rules.{rules_of}
-use Rattle.routes.specs.Lines.{x_lines, y_lines, among, none_between, neighbours, line_move}
+use Rattle.routes.specs.Lines.{neighbours, line_move}
 use Rattle.routes.specs.Claims.{at_prices, LinesSuffice, LeastOnLinesIsLeast, NoLineRouteNoPath}
 use Rattle.routes.proofs.Bools.{left, right, both}
 use Rattle.routes.proofs.Moves.{more_moves, x_inside, y_inside}

@@ -1,7 +1,4 @@
 -- What the laws of amounts give of sums. Assumes nothing.
-use Rattle.std.proofs.lemmas.Grind.{common_steps}
-use Rattle.std.proofs.Common.{rules}
-use borrow.Author.Differences.{ints}
 use Rattle.std.proofs.lemmas.Bool.Decides.{nat_tests}
 use Rattle.std.proofs.Common.{◌≡◌, ℕ, zero, suc, ◌+◌, ◌-◌, ◌*◌, ◌≤◌, true, T, ◌⊎◌, sym, refl, ap, ◌∙◌, subst, inl, inr, suc-mul, suc-add, zero-add, zero-mul, arith}
 use Rattle.costs.specs.Amounts.{Sums, Laws, Tariff, times}

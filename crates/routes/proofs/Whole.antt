@@ -1,13 +1,11 @@
 -- Moves that continue one another straight on are one run. Assumes nothing.
-use Rattle.std.proofs.lemmas.Grind.{common_steps}
-use borrow.Author.Differences.{ints}
-use Rattle.std.proofs.Common.{◌≡◌, ℕ, ◌≤◌, Bool, true, false, cond, not, T, eqb, ltb, List, [], ◌∷◌, sym, refl, ap, ◌∙◌, subst, inl, inr, arith, rules, eqb→eq}
+use Rattle.std.proofs.Common.{◌≡◌, ℕ, Bool, cond, not, T, eqb, ltb, List, [], ◌∷◌, sym, refl, ap, ◌∙◌, subst, inl, inr, arith, rules}
 use Rattle.std.proofs.lemmas.Bool.Decides.{nat_tests}
-use Rattle.std.proofs.lemmas.Bool.{cases_Bool, cases_lt, lt-ltb, le-ltb, ltb-true, ltb-false, eq-eqb}
+use Rattle.std.proofs.lemmas.Bool.{cases_Bool, eq-eqb}
 use Rattle.geometry.specs.declared.point.Point.{Point}
 use Rattle.costs.specs.Amounts.{Tariff}
 use Rattle.routes.specs.Routes.{Move, along_x, along_y, to_layer, after, every, Rules, lawful_move, lawful, goes, gap}
-use Rattle.routes.specs.Turns.{heading, straight_on, turns, points_of, whole_runs, visited}
+use Rattle.routes.specs.Turns.{straight_on, turns, points_of, whole_runs, visited}
 use Rattle.routes.proofs.Bools.{right, refuted}
 use Rattle.routes.proofs.Moves.{this_move, later_moves, more_moves}
 use Rattle.routes.proofs.Sums.{Ordered}
