@@ -75,13 +75,6 @@ via_keeps_clear width height layers c net pieces p l ok =
       free_clear net c.pad c.space pieces l (box p p) (via_there R p l ground),
     )
 
--- lying apart goes both ways
-or_swap : (a b : Bool) → T (a || b) → T (b || a)
-or_swap a b h = elim (either _ _ h) [ inl k ↦ second b a k | inr k ↦ first _ _ k ]
-
-or_both : (a b a' b' : Bool) → (T a → T a') → (T b → T b') → T (a || b) → T (a' || b')
-or_both a b a' b' f g h = elim (either _ _ h) [ inl k ↦ first _ _ (f k) | inr k ↦ second _ _ (g k) ]
-
 apart_swap : (g : ℕ) (r b : Rect) → T (apart g r b) → T (apart g b r)
 apart_swap g r b = grind (arith, ints)
 

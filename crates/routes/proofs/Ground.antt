@@ -25,9 +25,6 @@ closed a b = record { low = pos a; high = pos b }
 below_more : (z : ℤ) (b b' : ℕ) → b' ≤ b → T (lt_z z (pos b')) → T (lt_z z (pos b))
 below_more z b b' h k = grind (arith, nat_tests)
 
-above_less : (z : ℤ) (a a' : ℕ) → a ≤ a' → T (lt_z (pos a') z) → T (lt_z (pos a) z)
-above_less z a a' h k = grind (arith, nat_tests)
-
 -- an open span that crosses a part of a closed one crosses it
 crosses_part : (z : Span) (a b a' b' : ℕ) → a ≤ a' → b' ≤ b → T (crosses z (closed a' b')) → T (crosses z (closed a b))
 crosses_part z a b a' b' h k t = grind (arith, nat_tests)

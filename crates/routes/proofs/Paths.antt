@@ -18,12 +18,6 @@ use Rattle.routes.proofs.Ground.{parts_free, joins_free}
 same_verdict : (a b : Bool) → (T a → T b) → (T b → T a) → a ≡ b
 same_verdict v0 v1 f g = grind (arith, nat_tests)
 
-neighbours_apart : (qs : List ℕ) (a b : ℕ) → T (neighbours qs a b) → T (not (eqb (gap a b) 0))
-neighbours_apart qs a b h = grind (arith, nat_tests)
-
-step_goes : (n : ℕ) → T (eqb n 1) → T (not (eqb n 0))
-step_goes n h = refute _ (λ k. let one : n ≡ 1 = eqb→eq _ _ h in let none : n ≡ 0 = eqb→eq _ _ k in omega arith)
-
 pub routes_are_paths : {M : Type 0} (sums : Sums M) → Laws sums → RoutesArePaths sums
 routes_are_paths sums laws prices width height layers c net pieces s r starts ok =
     let R = rules_of width height layers c net pieces in

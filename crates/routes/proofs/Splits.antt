@@ -48,9 +48,6 @@ Amid a q b = ((a < q) × (q < b)) ⊎ ((b < q) × (q < a))
 abbrev way : ℕ → ℕ → ℕ → ℕ → ℕ
 way up down a b = cond (ltb a b) up down
 
-way_same : (up down a b c d : ℕ) → ((a < b) × (c < d)) ⊎ ((b ≤ a) × (d ≤ c)) → way up down a b ≡ way up down c d
-way_same up down a b c d v6 = grind (arith, nat_tests)
-
 way_first : (up down a q b : ℕ) → Amid a q b → way up down a q ≡ way up down a b
 way_first up down a q b v5 = grind (arith, nat_tests)
 
@@ -62,12 +59,6 @@ way_run up down a b h k = elim (ltb a b) as (λ t. T (ltb 0 (cond t up down))) [
 
 apart_goes : (a b : ℕ) → (a ≡ b → ⊥) → T (not (eqb (gap a b) 0))
 apart_goes a b ne = subst (λ t. T (not t)) (sym (ne_eqb (gap a b) 0 (λ e. ne (omega arith)))) tt
-
-gap_up : (a b : ℕ) → a < b → gap a b ≡ b - a
-gap_up a b h = omega arith
-
-gap_down : (a b : ℕ) → b < a → gap a b ≡ a - b
-gap_down a b h = omega arith
 
 gap_amid : (a q b : ℕ) → Amid a q b → gap a b ≡ gap a q + gap q b
 gap_amid a q b v3 = grind (arith, nat_tests)
@@ -152,13 +143,6 @@ module _ {M : Type 0} (R : Rules) (tf : Tariff M) {leq : M → M → Type 0} (la
 abbrev pub sets_out : Point → List Move → ℕ
 sets_out p [] = 0
 sets_out p (m ∷ r) = heading p m
-
--- whether a run is continued depends on the two headings alone
-abbrev goes_on : ℕ → ℕ → Bool
-goes_on h g = ltb 0 h && eqb h g
-
-pub straight_on_is : (p : Point) (m : Move) (r : List Move) → straight_on p m r ≡ goes_on (heading p m) (sets_out (after p m) r)
-straight_on_is p m v2 = grind (arith, nat_tests)
 
 pub straight_on_like : (p p' : Point) (m m' : Move) (r r' : List Move) → heading p m ≡ heading p' m'
     → sets_out (after p m) r ≡ sets_out (after p' m') r'
