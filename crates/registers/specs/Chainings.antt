@@ -11,6 +11,8 @@ use Rattle.std.specs.Prelude.{◌≡◌, ℕ, zero, suc, ◌<◌, true, cond, Li
 use Rattle.geometry.specs.declared.piece.Piece.{Piece}
 use Rattle.registers.specs.declared.chain.Chain.{Chain}
 use Rattle.registers.specs.declared.chains.Chains.{Chains}
+use Rattle.registers.specs.declared.chains.TheConstants.{NO_PIECE}
+use Rattle.registers.specs.declared.strips.TheConstants.{CHAINS}
 use Rattle.registers.specs.Standing.{no_piece}
 use Rattle.registers.specs.Strips.{chain_of, chain_with, within_chain}
 
@@ -27,9 +29,8 @@ chain_at height ps k = chain_of height (piece_at ps k)
 abbrev pub head_at : Chains → ℕ → Chain
 head_at c s = slice_index_or c.heads s no_chain
 
--- The largest number that a link can be leads nowhere.
 abbrev pub place_of : ℕ → Option ℕ
-place_of k = cond (k == 65535) None (Some k)
+place_of k = cond (k == NO_PIECE) None (Some k)
 
 abbrev pub last_in : (ℕ → ℕ) → ℕ → ℕ → Option ℕ
 last_in f s zero = None
@@ -39,7 +40,7 @@ last_in f s (suc n) = cond (f n == s) (Some n) (last_in f s n)
 pub record PutLast (i : ℕ) (p : Piece) (before after : Chains) : Type 0 where
   pub inside : chain_of before.strips.height p < length before.heads
   pub links :
-      after.links.now ≡ slice_set before.links.now i (unwrap_or (head_at before (chain_of before.strips.height p)).last 65535)
+      after.links.now ≡ slice_set before.links.now i (unwrap_or (head_at before (chain_of before.strips.height p)).last NO_PIECE)
   pub heads :
       let s = chain_of before.strips.height p in after.heads ≡ slice_set before.heads s (chain_with i p (head_at before s))
   pub strips : after.strips ≡ before.strips
@@ -53,7 +54,7 @@ Linked ps c =
 -- Each chain leads to its last piece.
 abbrev pub Headed : List Piece → Chains → Type 0
 Headed ps c =
-    (s : ℕ) → s < 256 → (head_at c s).last ≡ last_in (chain_at c.strips.height ps) s (length ps)
+    (s : ℕ) → s < CHAINS → (head_at c s).last ≡ last_in (chain_at c.strips.height ps) s (length ps)
 
 -- Each piece is within the bounds of its chain.
 abbrev pub Bounded : List Piece → Chains → Type 0

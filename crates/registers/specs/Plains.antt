@@ -14,6 +14,3 @@ plain_pieces r = standing r.slots
 
 pub plain_few : (r : PlainRegister) → length (plain_pieces r) ≤ 4096
 plain_few r = standing_few r.slots
-
-pub plain_limited : (r : PlainRegister) → plain_places r ≤ 4096
-plain_limited r = r.slots.limited

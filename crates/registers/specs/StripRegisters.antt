@@ -20,9 +20,6 @@ strip_pieces r = standing r.slots
 pub strip_few : (r : StripRegister) → length (strip_pieces r) ≤ 4096
 strip_few r = standing_few r.slots
 
-pub strip_limited : (r : StripRegister) → strip_places r ≤ 4096
-strip_limited r = r.slots.limited
-
 abbrev pub NoneInChain : ℕ → Question → StripRegister → Type 0
 NoneInChain s q r =
     let ps = strip_pieces r in

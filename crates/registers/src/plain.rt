@@ -1,6 +1,6 @@
 // The plain register: pieces in the first of a row of slots that the caller lends.
 ghost use Rattle.std.specs.Prelude.{◌≡◌, min, [], length};
-ghost use Rattle.registers.specs.Plains.{plain_places, plain_pieces, plain_few, plain_limited};
+ghost use Rattle.registers.specs.Plains.{plain_places, plain_pieces, plain_few};
 
 use crate::pieces::Pieces;
 use crate::register::{Full, Register};
@@ -47,7 +47,7 @@ impl<'a> Pieces for PlainRegister<'a> {
 impl<'a> Register for PlainRegister<'a> {
     ghost places = { plain_places };
 
-    ghost limited = { plain_limited };
+    ghost limited = { λ r. r.slots.limited };
 
     fn free(&self) -> usize {
         self.slots.free()

@@ -86,11 +86,11 @@ impl<'a> Pieces for StripRegister<'a> {
 }
 
 impl<'a> Register for StripRegister<'a> {
-    ghost use Rattle.registers.specs.StripRegisters.{strip_places, strip_limited};
+    ghost use Rattle.registers.specs.StripRegisters.{strip_places};
 
     ghost places = { strip_places };
 
-    ghost limited = { strip_limited };
+    ghost limited = { λ r. r.slots.limited };
 
     fn free(&self) -> usize {
         self.slots.free()

@@ -108,7 +108,7 @@ pub fn takes_out<R: Register>(rt: &impl Abort, r: &mut R) -> Result<(), Fail> {
             left: &[7, 65535, 7, 1, 7, 2],
         },
         Taken {
-            job: 4294967295,
+            job: u32::MAX,
             went: 0,
             left: &[7, 65535, 7, 1, 7, 2],
         },
@@ -152,12 +152,12 @@ pub fn takes_out<R: Register>(rt: &impl Abort, r: &mut R) -> Result<(), Fail> {
     jobs_are(rt, r, &[8])
 }
 
-/// A question, and the job number of the only piece in the way, or 0.
+/// A question, and the job number of the only piece in the way, if one is.
 struct Asked {
     layer: u8,
     x: i32,
     laid: bool,
-    job: u16,
+    job: Option<u16>,
 }
 
 const ASKED: [Asked; 12] = [
@@ -166,75 +166,75 @@ const ASKED: [Asked; 12] = [
         layer: 1,
         x: 35,
         laid: false,
-        job: 0,
+        job: None,
     },
     Asked {
         layer: 1,
         x: 36,
         laid: false,
-        job: 1,
+        job: Some(1),
     },
     Asked {
         layer: 1,
         x: 54,
         laid: false,
-        job: 1,
+        job: Some(1),
     },
     Asked {
         layer: 1,
         x: 55,
         laid: false,
-        job: 0,
+        job: None,
     },
     Asked {
         layer: 2,
         x: 45,
         laid: false,
-        job: 0,
+        job: None,
     },
     // the first is placed, the second laid
     Asked {
         layer: 1,
         x: 45,
         laid: true,
-        job: 0,
+        job: None,
     },
     Asked {
         layer: 1,
         x: 75,
         laid: true,
-        job: 2,
+        job: Some(2),
     },
     Asked {
         layer: 1,
         x: 75,
         laid: false,
-        job: 2,
+        job: Some(2),
     },
     // below 0, and at the ends of 32 bits
     Asked {
         layer: 1,
         x: -100,
         laid: false,
-        job: 3,
+        job: Some(3),
     },
     Asked {
         layer: 1,
-        x: -2147483648,
+        x: i32::MIN,
         laid: false,
-        job: 4,
+        job: Some(4),
     },
     Asked {
         layer: 1,
-        x: 2147483647,
+        x: i32::MAX,
         laid: false,
-        job: 0,
+        job: None,
     },
     Asked {
         layer: 1,
         x: 0,
         laid: false,
-        job: 0,
+        job: None,
     },
 ];
 
@@ -243,19 +243,14 @@ pub fn tells_what_is_in_the_way<R: Register>(rt: &impl Abort, r: &mut R) {
     assert_eq!(rt; r.add(bar(1, 40, 50, Mark::Placed)), Ok(()));
     assert_eq!(rt; r.add(bar(2, 70, 80, Mark::Laid)), Ok(()));
     assert_eq!(rt; r.add(bar(3, -110, -90, Mark::Placed)), Ok(()));
-    assert_eq!(rt;
-        r.add(bar(4, -2147483648, -2147483640, Mark::Placed)),
-        Ok(())
-    );
+    assert_eq!(rt; r.add(bar(4, i32::MIN, i32::MIN + 8, Mark::Placed)), Ok(()));
     for row in &ASKED {
-        let job = r
-            .in_the_way(&about(row.layer, row.x, row.laid))
-            .unwrap_or(0);
-        assert_eq!(rt; job, row.job);
+        let question = about(row.layer, row.x, row.laid);
+        assert_eq!(rt; r.in_the_way(&question), row.job);
     }
     assert_eq!(rt; r.take_out(1), 1);
-    assert!(rt; r.in_the_way(&about(1, 45, false)).is_none());
+    assert_eq!(rt; r.in_the_way(&about(1, 45, false)), None);
     assert_eq!(rt; r.in_the_way(&about(1, 75, false)), Some(2));
     r.clear();
-    assert!(rt; r.in_the_way(&about(1, 75, false)).is_none());
+    assert_eq!(rt; r.in_the_way(&about(1, 75, false)), None);
 }

@@ -5,7 +5,7 @@ use registers::{Full, Pieces, PlainRegister, Register, StripRegister};
 use std::test::Fail;
 
 /// Heights that cut y in different ways.
-const HEIGHTS: [u32; 5] = [0, 1, 60, 60000, 4294967295];
+const HEIGHTS: [u32; 5] = [0, 1, 60, 60000, u32::MAX];
 
 #[test]
 fn full_and_emptied(rt: HostRuntime) -> Result<(), Fail> {
@@ -21,7 +21,7 @@ fn full_and_emptied(rt: HostRuntime) -> Result<(), Fail> {
 fn jobs_taken_out(rt: HostRuntime) -> Result<(), Fail> {
     for height in HEIGHTS {
         let mut slots = [EMPTY; 7];
-        let mut links = [65535; 6];
+        let mut links = [u16::MAX; 6];
         takes_out(&rt, &mut StripRegister::new(&mut slots, &mut links, height))?;
     }
     Ok(())
