@@ -1,5 +1,5 @@
 -- Chains that are empty, and chains that grow by one piece. Assumes nothing.
-use Rattle.std.proofs.Common.{◌≡◌, ℕ, zero, suc, ◌+◌, ◌<◌, ◌≤◌, true, List, [], ◌∷◌, ◌++◌, None, Some, Option, length, get_or, set, sym, refl, ap, ◌∙◌, subst, inl, inr, arith, get_or-set_other, get_or-set_same, length-append}
+use Rattle.std.proofs.Common.{◌≡◌, ℕ, zero, suc, ◌+◌, ◌<◌, ◌≤◌, true, List, [], ◌∷◌, ◌++◌, None, Some, Option, length, get_or, set, sym, refl, ap, ◌∙◌, subst, inl, inr, arith, get_or-set_other, get_or-set_same, length-append, length-take}
 use Rattle.std.specs.Option.{is_none, unwrap_or}
 use Rattle.std.proofs.Math.ListN.{get_or-append}
 use Rattle.std.proofs.Math.Seq.{get_or-append_seam}
@@ -8,7 +8,9 @@ use Rattle.geometry.specs.declared.piece.Piece.{Piece}
 use Rattle.geometry.specs.Lists.{all_of}
 use Rattle.registers.specs.declared.chain.Chain.{Chain}
 use Rattle.registers.specs.declared.chains.Chains.{Chains}
+use Rattle.registers.specs.declared.slots.Slots.{Slots}
 use Rattle.registers.specs.Standing.{no_piece}
+use Rattle.registers.specs.Filled.{standing}
 use Rattle.registers.specs.Strips.{chain_of, unused, chain_with, within_chain}
 use Rattle.registers.specs.Chainings.{no_chain, piece_at, chain_at, head_at, place_of, last_in, PutLast, Chained}
 use Rattle.registers.proofs.Bounds.{within_more, within_itself}
@@ -24,11 +26,13 @@ last_unused [] s h = refl
 last_unused (c ∷ heads) zero h = none_of c.last (and_parts (unused c) (all_of unused heads) h).0
 last_unused (c ∷ heads) (suc s) h = last_unused heads s (and_parts (unused c) (all_of unused heads) h).1
 
-pub chained_none : (ps : List Piece) (c : Chains) → length ps ≡ 0 → all_of unused c.heads ≡ true → Chained ps c
-chained_none ps c e none =
+pub chained_none : (s : Slots) (c : Chains) → s.count ≡ 0 → all_of unused c.heads ≡ true → Chained (standing s) c
+chained_none s c none-stands none =
+    let ps = standing s in
+    let e : length ps ≡ 0 = simp length-take (omega arith) in
     record {
       linked = λ i h. absurd (let no : ⊥ = omega arith in no);
-      headed = λ s h. last_unused c.heads s none ∙ ap (last_in (chain_at c.strips.height ps) s) (sym e);
+      headed = λ v h. last_unused c.heads v none ∙ ap (last_in (chain_at c.strips.height ps) v) (sym e);
       bounded = λ i h. absurd (let no : ⊥ = omega arith in no);
     }
 
