@@ -1,5 +1,5 @@
 // All chains of a strip register, through a row of links that the caller lends.
-ghost use Rattle.std.specs.Prelude.{◌≡◌, ◌<◌, ◌≤◌, true, length, slice_index, slice_index_or};
+ghost use Rattle.std.specs.Prelude.{◌≡◌, ◌<◌, ◌≤◌, true, length, slice_index};
 ghost use Rattle.geometry.specs.Lists.{all_of};
 ghost use Rattle.registers.specs.Strips.{unused};
 
@@ -19,7 +19,7 @@ pub(crate) struct Chains<'a> {
 }
 
 impl<'a> Chains<'a> {
-    ghost use Rattle.registers.specs.Chainings.{no_chain, place_of, PutLast, Rechained};
+    ghost use Rattle.registers.specs.Chainings.{head_at, place_of, PutLast, Rechained};
 
     /// Chains of no pieces.
     pub(crate) fn new(links: &'a mut [u16], height: u32) -> Chains<'a>
@@ -46,7 +46,7 @@ impl<'a> Chains<'a> {
     /// Where the last piece of a chain stands.
     pub(crate) fn last(&self, s: usize) -> Option<usize>
         requires { s < CHAINS }
-        ensures { result ≡ (slice_index_or self.now.heads s no_chain).last }
+        ensures { result ≡ (head_at self.now s).last }
     {
         self.heads[s].last.map(|k| k as usize)
     }

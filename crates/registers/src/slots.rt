@@ -64,7 +64,7 @@ impl<'a> Slots<'a> {
     pub(crate) fn standing(&self) -> &[Piece]
         ensures { result.now ≡ standing self.now }
     {
-        &self.pieces[0..self.count]
+        &self.pieces[..self.count]
     }
 
     /// How many places are free.
