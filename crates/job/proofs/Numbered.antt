@@ -3,7 +3,7 @@ use Rattle.std.proofs.Common.{◌≡◌, ℕ, suc, ◌+◌, ◌-◌, ◌<◌, �
 use Rattle.job.specs.declared.reader.Unreadable.{Unreadable}
 use Rattle.job.specs.Text.{WordAt}
 use Rattle.job.specs.Numbers.{number}
-use Rattle.job.specs.Reading.{behind, first_read, read_by, read_numbers}
+use Rattle.job.specs.Reading.{then_read, behind, read_by, read_numbers}
 
 pub behind_none : (r : Result (List ℕ) Unreadable) → behind [] r ≡ r
 behind_none (Ok ms) = refl
@@ -14,7 +14,7 @@ behind_one ns n (Ok ms) = ap Ok (sym (append_assoc ns (n ∷ []) ms))
 behind_one ns n (Err e) = refl
 
 module _ (ns : List ℕ) (k i end : ℕ) (ws : List WordAt) where
-  next_read : i < k → read_numbers (k - i) end ws ≡ first_read (read_by number end ws) (read_numbers (k - (i + 1)) end (drop 1 ws))
+  next_read : i < k → read_numbers (k - i) end ws ≡ then_read (read_by number end ws) (λ n. behind (n ∷ []) (read_numbers (k - (i + 1)) end (drop 1 ws)))
   next_read h = let e : k - i ≡ suc (k - (i + 1)) = omega arith in rw e
 
   -- The next word is a number; it does not fit; no more are asked for.

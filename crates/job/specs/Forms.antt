@@ -16,8 +16,9 @@ use Rattle.job.specs.declared.forms.PanelLine.{PanelLine}
 use Rattle.job.specs.declared.forms.LayerLine.{LayerLine}
 use Rattle.job.specs.declared.forms.ClassLine.{ClassLine}
 use Rattle.job.specs.Text.{WordAt}
-use Rattle.job.specs.Reading.{read_by, read_numbers, read_end}
+use Rattle.job.specs.Reading.{read_by, then_read, read_numbers, read_end}
 
+-- a value, if the bytes are its word; else what they name among the others
 abbrev pub named : {X : Type 0} → List ℕ → List ℕ → X → Option X → Option X
 named bs word x others = cond (bytes_eq bs word) (Some x) others
 
@@ -26,16 +27,12 @@ verb bs =
     named bs (codes "panel") Panel (named bs (codes "layer") Layer (named bs (codes "class") Class (named bs (codes "open") Open
     (named bs (codes "place") Place (named bs (codes "lift") Lift (named bs (codes "quote") Quote (named bs (codes "connect") Connect None)))))))
 
+-- the letters of the kinds of cost, and those of the registers
 abbrev pub cost_choice : List ℕ → Option CostChoice
 cost_choice bs = named bs (codes "m") Money (named bs (codes "v") Vias None)
 
 abbrev pub register_choice : List ℕ → Option RegisterChoice
 register_choice bs = named bs (codes "p") Plain (named bs (codes "s") Strips None)
-
--- what is read further on, where what stands before it fits
-abbrev pub then_read : {X Y : Type 0} → Result X Unreadable → (X → Result Y Unreadable) → Result Y Unreadable
-then_read (Ok x) more = more x
-then_read (Err e) more = Err e
 
 -- a value, where no word is left
 abbrev pub at_end : {X : Type 0} → Option Unreadable → X → Result X Unreadable

@@ -58,20 +58,20 @@ abbrev pub read_by : {X : Type 0} → (List ℕ → Option X) → ℕ → List W
 read_by value end [] = Err (unreadable end)
 read_by value end (w ∷ ws) = ok_or (value w.bytes) (unreadable w.place)
 
+-- what is read further on, where what stands before it fits
+abbrev pub then_read : {X Y : Type 0} → Result X Unreadable → (X → Result Y Unreadable) → Result Y Unreadable
+then_read (Ok x) more = more x
+then_read (Err e) more = Err e
+
 -- some numbers in front of what is read behind them, unless that does not fit
 abbrev pub behind : List ℕ → Result (List ℕ) Unreadable → Result (List ℕ) Unreadable
 behind ns (Ok ms) = Ok (ns ++ ms)
 behind ns (Err e) = Err e
 
--- what the first number is, and behind it the others
-abbrev pub first_read : Result ℕ Unreadable → Result (List ℕ) Unreadable → Result (List ℕ) Unreadable
-first_read (Ok n) others = behind (n ∷ []) others
-first_read (Err e) others = Err e
-
 -- as many numbers as are asked for
 abbrev pub read_numbers : ℕ → ℕ → List WordAt → Result (List ℕ) Unreadable
 read_numbers zero end ws = Ok []
-read_numbers (suc k) end ws = first_read (read_by number end ws) (read_numbers k end (drop 1 ws))
+read_numbers (suc k) end ws = then_read (read_by number end ws) (λ n. behind (n ∷ []) (read_numbers k end (drop 1 ws)))
 
 -- no word is left
 abbrev pub read_end : List WordAt → Option Unreadable

@@ -9,7 +9,7 @@ use costs::RowRefusal;
 use panel::{Level, Refusal, SheetRefusal, Shown};
 
 /// Why a line is refused: it cannot be read or is out of turn, or what it says is turned down.
-#[derive(Clone, Copy, Debug, PartialEq)]
+#[derive(Clone, Copy, Debug, PartialEq, Eq)]
 pub enum Refused {
     ByJob(Unreadable),
     BySheet(SheetRefusal),

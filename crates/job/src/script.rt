@@ -15,7 +15,7 @@ use panel::{Call, Sheet};
 use std::alloc::{AllocError, Global};
 
 /// What a job says: what its accepted lines set, and what each line that is answered comes to.
-#[derive(Debug, PartialEq, Drop)]
+#[derive(Debug, PartialEq, Eq, Drop)]
 pub struct Script {
     pub setup: Setup,
     pub said: Vec<Said>,

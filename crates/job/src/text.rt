@@ -10,7 +10,7 @@ use std::fmt;
 use std::slice::Iter;
 
 /// What a line of a job comes to once its call is answered: what the call did, or why the line or its call is refused.
-#[derive(Clone, Copy, Debug, PartialEq)]
+#[derive(Clone, Copy, Debug, PartialEq, Eq)]
 pub(crate) struct Outcome {
     line: usize,
     outcome: Result<Done, Refused>,
@@ -74,9 +74,11 @@ pub(crate) fn write_all(
     let mut left = answers.iter();
     for s in said {
         if let Some(outcome) = outcome_of(&s.reply, &mut left) {
-            let line = s.line;
-            let outcome = Outcome { line, outcome };
-            write!(text, "{outcome}")?;
+            let told = Outcome {
+                line: s.line,
+                outcome,
+            };
+            write!(text, "{told}")?;
         }
     }
     Ok(text)

@@ -50,11 +50,8 @@ impl<'a> WordReader<'a> {
         ensures words { left self.new ≡ drop 1 (left self.old) }
         ensures line { self.new.line.now ≡ self.old.line.now }
     {
-        let Some(word) = self.next() else {
-            return Err(Unreadable {
-                place: self.line.len(),
-            });
-        };
+        let end = self.line.len();
+        let word = self.next().ok_or(Unreadable { place: end })?;
         parse(word.text).ok_or(Unreadable { place: word.place })
     }
 
