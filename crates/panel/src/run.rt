@@ -39,6 +39,7 @@ pub fn run_calls<K: CostKind, R: Register + Drop>(
 {
     let mut panel = sheet.open(kind, register);
     let mut answers = Vec::new(heap);
+    // no chain: `map` says what its items are only of a closure that leaves what it borrows as it is
     for call in calls {
         answers.push(panel.make(call))?;
     }
