@@ -1,5 +1,5 @@
 -- What a strip register means. Assumes nothing.
---     strip_places r          its places
+--     strip_places r          as many as its slots, of which it takes as many as there are links, and 4,096 at most
 --     strip_pieces r          the pieces that stand in its slots
 --     NoneInChain s q r       no piece of chain s is in the way
 --     ToldInChain s q r       what the walk of a chain tells
@@ -12,7 +12,7 @@ use Rattle.registers.specs.Filled.{standing, standing_few}
 use Rattle.registers.specs.Chainings.{piece_at, chain_at}
 
 abbrev pub strip_places : StripRegister → ℕ
-strip_places r = r.slots.places
+strip_places r = length r.slots.pieces.now
 
 abbrev pub strip_pieces : StripRegister → List Piece
 strip_pieces r = standing r.slots

@@ -8,15 +8,13 @@ use geometry::Piece;
 /// The most places that a register has.
 pub(crate) const PLACES: usize = 4096;
 
-/// Slots, how many of them are places for pieces, and in how many a piece stands.
+/// Slots, each a place for a piece, and in how many a piece stands.
 #[derive(Drop)]
 pub(crate) struct Slots<'a> {
     pub pieces: &'a mut [Piece],
-    pub places: usize,
     pub count: usize,
-    ghost inside: { places ≤ length pieces.now },
-    ghost limited: { places ≤ 4096 },
-    ghost within: { count ≤ places },
+    ghost limited: { length pieces.now ≤ 4096 },
+    ghost within: { count ≤ length pieces.now },
 }
 
 /// Puts a piece into the slot behind the first `count`.
@@ -47,15 +45,14 @@ fn compact(slots: &mut [Piece], count: usize, job: u32) -> usize
 impl<'a> Slots<'a> {
     ghost use Rattle.registers.specs.Filled.{standing};
 
-    /// Slots in which nothing stands, with at most so many places.
+    /// The first of some slots, at most so many, in which nothing stands.
     pub(crate) fn new(pieces: &'a mut [Piece], most: usize) -> Slots<'a>
         ensures none { result.count ≡ 0 }
-        ensures places { result.places ≡ min (min (length pieces.old) most) 4096 }
+        ensures places { length result.pieces.now ≡ min (min (length pieces.old) most) 4096 }
     {
         let places = pieces.len().min(most).min(PLACES);
         Slots {
-            pieces,
-            places,
+            pieces: &mut pieces[..places],
             count: 0,
         }
     }
@@ -69,16 +66,16 @@ impl<'a> Slots<'a> {
 
     /// How many places are free.
     pub(crate) fn free(&self) -> usize
-        ensures { result + self.now.count ≡ self.now.places }
+        ensures { result + self.now.count ≡ length self.now.pieces.now }
     {
-        self.places - self.count
+        self.pieces.len() - self.count
     }
 
     /// Appends a piece while a place is free, and else only refuses.
     pub(crate) fn add(&mut self, p: Piece) -> Result<(), Full>
-        ensures answer { is_ok result ≡ nat_lt self.old.count self.old.places }
+        ensures answer { is_ok result ≡ nat_lt self.old.count (length self.old.pieces.now) }
         ensures stands { standing self.new ≡ appended_if (is_ok result) p (standing self.old) }
-        ensures places { self.new.places ≡ self.old.places }
+        ensures places { length self.new.pieces.now ≡ length self.old.pieces.now }
     {
         if self.free() == 0 {
             return Err(Full);
@@ -92,7 +89,7 @@ impl<'a> Slots<'a> {
     pub(crate) fn take_out(&mut self, job: u32) -> usize
         ensures answer { result ≡ count_of_job job (standing self.old) }
         ensures stands { standing self.new ≡ without_job job (standing self.old) }
-        ensures places { self.new.places ≡ self.old.places }
+        ensures places { length self.new.pieces.now ≡ length self.old.pieces.now }
     {
         let before = self.count;
         let left = compact(self.pieces, before, job);
@@ -103,7 +100,7 @@ impl<'a> Slots<'a> {
     /// Takes out all pieces.
     pub(crate) fn clear(&mut self)
         ensures none { self.new.count ≡ 0 }
-        ensures places { self.new.places ≡ self.old.places }
+        ensures places { length self.new.pieces.now ≡ length self.old.pieces.now }
     {
         self.count = 0;
     }

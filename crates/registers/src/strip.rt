@@ -16,7 +16,7 @@ use geometry::{Piece, Question, in_way};
 pub struct StripRegister<'a> {
     slots: Slots<'a>,
     chains: Chains<'a>,
-    ghost roomy: { slots.places ≤ length chains.links.now },
+    ghost roomy: { length slots.pieces.now ≤ length chains.links.now },
     ghost linked: { Linked (standing slots) chains },
     ghost headed: { Headed (standing slots) chains },
     ghost bounded: { Bounded (standing slots) chains },

@@ -13,8 +13,8 @@ invariant_of-self-2 c =
     let ps = strip_pieces me in
     let p = c.args.p in
     let after = c.link.new.self in
-    let free : me.slots.count < me.slots.places = ltb-true _ _ (sym c.in_ok-add.ensures.answer) in
-    let long : length ps ≡ me.slots.count = simp length-take (omega (arith, me.slots.within, me.slots.inside)) in
+    let free : me.slots.count < length me.slots.pieces.now = ltb-true _ _ (sym c.in_ok-add.ensures.answer) in
+    let long : length ps ≡ me.slots.count = simp length-take (omega (arith, me.slots.within)) in
     let put : PutLast (length ps) p me.chains after = subst (λ n. PutLast n p me.chains after) (sym long) c.link.ensures in
     let grown : Chained (ps ++ (p ∷ [])) after =
     chained_more ps p me.chains after (omega (arith, long, me.roomy, free)) (omega (arith, long, me.slots.limited, free)) put (is_chained me) in
