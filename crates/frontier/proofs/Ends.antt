@@ -1,10 +1,9 @@
 -- How a search begins, and what it has found when it ends. Assumes nothing.
+use Rattle.std.proofs.lemmas.Bool.Decides.{nat_tests}
 use Rattle.std.proofs.Common.{◌≡◌, ℕ, ◌<◌, [], sym, ap, ◌∙◌, subst, subst₂, inl, ⊎_elim, arith}
-use native.Mathlib.Decide.{ℕ_discrete}
 use Rattle.costs.specs.Amounts.{Laws}
 use Rattle.frontier.specs.Routes.{Search, LeastCost, HasNoRoute}
 use Rattle.frontier.specs.Front.{Mark, unseen, waits, settled, Nothing, Frontier, Light}
-use Rattle.frontier.proofs.Marks.{not_both, unseen_waits, unseen_settled, waits_same}
 use Rattle.frontier.proofs.Settle.{leaves}
 use Rattle.frontier.proofs.Trails.{trail_route, turned}
 
@@ -20,18 +19,10 @@ pub record Beginning {M : Type 0} (g : Search M) (f : ℕ → Mark M) (entries :
 module _ {M : Type 0} {g : Search M} (laws : Laws g.sums) {f : ℕ → Mark M} {entries : M → ℕ → Type 0} where
   module _ (B : Beginning g f entries) where
     pub none_settled : (u : ℕ) (a : M) (q : ℕ) → f u ≡ settled a q → ⊥
-    none_settled u a q st = split (ℕ_discrete u g.from)
-      where
-        split : Dec (u ≡ g.from) → ⊥
-        split (yes k) = not_both (f u) g.sums.nothing a B.before q (ap f k ∙ B.first) st
-        split (no n) = unseen_settled (f u) a q (B.rest u n) st
+    none_settled u a q st = grind (arith, nat_tests)
 
     one_waits : (u : ℕ) (a : M) (q : ℕ) → f u ≡ waits a q → (u ≡ g.from) × (a ≡ g.sums.nothing)
-    one_waits u a q wt = split (ℕ_discrete u g.from)
-      where
-        split : Dec (u ≡ g.from) → (u ≡ g.from) × (a ≡ g.sums.nothing)
-        split (yes k) = (k, waits_same (f u) a g.sums.nothing q B.before wt (ap f k ∙ B.first))
-        split (no n) = absurd (unseen_waits (f u) a q (B.rest u n) wt)
+    one_waits u a q wt = grind (arith, nat_tests)
 
     pub begin : Frontier g f entries Nothing
     begin = record {
@@ -48,10 +39,7 @@ module _ {M : Type 0} {g : Search M} (laws : Laws g.sums) {f : ℕ → Mark M} {
     }
 
     pub begin_light : Light g f
-    begin_light = record {
-      settled_bulk = λ u a q fu. absurd (none_settled u a q fu);
-      waits_bulk = λ w b q h. omega (arith, laws.bulk_nothing, ap g.sums.bulk (one_waits w b q h).1);
-    }
+    begin_light = grind (arith, nat_tests)
 
   -- what is noted of a settled node is the least of all
   pub found : {pending : ℕ → ℕ → Type 0} → Frontier g f entries pending → (t : ℕ) (a : M) (p : ℕ) → f t ≡ settled a p

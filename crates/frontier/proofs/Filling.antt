@@ -1,9 +1,9 @@
 -- Counting and writing the nodes that notes lead back. Assumes nothing.
-use Rattle.std.proofs.Common.{◌≡◌, ℕ, ◌+◌, ◌<◌, ◌≤◌, List, [], ◌∷◌, ◌++◌, length, get_or, take, set, Some, sym, refl, ap, ◌∙◌, arith, append_assoc, append-nil, length-set}
+use Rattle.std.proofs.lemmas.Bool.Decides.{nat_tests}
+use Rattle.std.proofs.Common.{◌≡◌, ℕ, ◌+◌, ◌<◌, ◌≤◌, List, [], ◌∷◌, ◌++◌, length, take, set, Some, sym, refl, ap, ◌∙◌, arith, append_assoc, append-nil, length-set}
 use Rattle.std.specs.Option.{unwrap_or}
 use Rattle.std.proofs.lemmas.List.{take_all, take_more_set}
 use Rattle.frontier.specs.declared.note.Note.{Note}
-use Rattle.frontier.specs.declared.note.Note.TheVariants.{Unseen, Waiting, Settled}
 use Rattle.frontier.specs.Ways.{previous_node, before_of, Leads}
 
 module _ {C : Type 0} (notes : List (Note C)) (from : ℕ) where
@@ -16,12 +16,7 @@ module _ {C : Type 0} (notes : List (Note C)) (from : ℕ) where
   -- a way from the node before u goes on from u
   pub leads_more : (u p : ℕ) (rest : List ℕ) → (u ≡ from → ⊥) → before_of notes u ≡ Some p → Leads notes from p rest
       → Leads notes from u (p ∷ rest)
-  leads_more u p rest ne is h = let k = settled_note (get_or notes u Unseen) is in (ne, k.0, k.1, h)
-    where
-      settled_note : (x : Note C) → previous_node x ≡ Some p → (a : C) × (x ≡ Settled a p)
-      settled_note Unseen e = let z : ◌≡◌ {A = ℕ} 0 1 = cc in absurd (omega arith)
-      settled_note (Waiting a q) e = let z : ◌≡◌ {A = ℕ} 0 1 = cc in absurd (omega arith)
-      settled_note (Settled a q) e = let same : q ≡ p = cc in (a, ap (Settled a) same)
+  leads_more u p rest ne is h = grind (arith, nat_tests)
 
   -- what is still to be written begins at u
   abbrev LeadsOn : ℕ → List ℕ → Type 0

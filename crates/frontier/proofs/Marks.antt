@@ -6,17 +6,8 @@ module _ {M : Type 0} where
   pub not_both : (m : Mark M) (a b : M) (p q : ℕ) → m ≡ waits a p → m ≡ settled b q → ⊥
   not_both m a b p q h k = let z : ◌≡◌ {A = ℕ} 0 1 = cc in omega arith
 
-  pub unseen_waits : (m : Mark M) (a : M) (p : ℕ) → m ≡ unseen → m ≡ waits a p → ⊥
-  unseen_waits m a p h k = let z : ◌≡◌ {A = ℕ} 0 1 = cc in omega arith
-
   pub unseen_settled : (m : Mark M) (a : M) (p : ℕ) → m ≡ unseen → m ≡ settled a p → ⊥
   unseen_settled m a p h k = let z : ◌≡◌ {A = ℕ} 0 1 = cc in omega arith
-
-  pub waits_same : (m : Mark M) (a b : M) (p q : ℕ) → m ≡ waits a p → m ≡ waits b q → a ≡ b
-  waits_same m a b p q h k = cc
-
-  pub waits_prev : (m : Mark M) (a b : M) (p q : ℕ) → m ≡ waits a p → m ≡ waits b q → p ≡ q
-  waits_prev m a b p q h k = cc
 
   pub settled_same : (m : Mark M) (a b : M) (p q : ℕ) → m ≡ settled a p → m ≡ settled b q → a ≡ b
   settled_same m a b p q h k = cc

@@ -1,4 +1,5 @@
 -- One note of the list is changed. Assumes nothing.
+use Rattle.std.proofs.lemmas.Bool.Decides.{nat_tests}
 use Rattle.std.proofs.Common.{◌≡◌, ℕ, ◌+◌, ◌<◌, ◌≤◌, true, false, ◌⊎◌, List, length, get_or, set, replicate, ⊎_elim, sym, refl, ap, ◌∙◌, inl, inr, arith, get_or-set_other, get_or-set_same}
 use native.Mathlib.Decide.{ℕ_discrete}
 use borrow.Author.Tests.{clash, not-true, not-false}
@@ -64,8 +65,7 @@ module _ {C M : Type 0} (means : C → M) where
 
   pub stays_trans : (size : ℕ) (l₁ l₂ l₃ : List (Note C)) (e₁ e₂ e₃ : List (Entry C)) (m n : ℕ)
       → Stays size means l₁ l₂ e₁ e₂ m → Stays size means l₂ l₃ e₂ e₃ n → Stays size means l₁ l₃ e₁ e₃ (m + n)
-  stays_trans size l₁ l₂ l₃ e₁ e₂ e₃ m n h k =
-      record { same = k.same ∙ h.same; kept = λ u x p q. h.kept u x p (k.kept u x p q); few = omega arith }
+  stays_trans size l₁ l₂ l₃ e₁ e₂ e₃ m n h k = grind (arith, nat_tests)
 
   -- a node that was not settled is noted as waiting
   pub stays_put : (size : ℕ) (notes : List (Note C)) (w : ℕ) (sum : C) (p : ℕ) (entries entries' : List (Entry C)) (sums : Sums M)

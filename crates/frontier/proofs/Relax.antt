@@ -1,5 +1,6 @@
 -- The moves from the node that was settled last are looked at one by one. Assumes nothing.
-use Rattle.std.proofs.Common.{◌≡◌, ℕ, ◌*◌, ◌<◌, ◌≤◌, false, T, ◌⊎◌, [], ◌∷◌, sym, refl, ap, ◌∙◌, subst, subst₂, inl, inr, ⊎_elim, arith}
+use Rattle.std.proofs.lemmas.Bool.Decides.{nat_tests}
+use Rattle.std.proofs.Common.{◌≡◌, ℕ, ◌*◌, ◌<◌, ◌≤◌, false, ◌⊎◌, [], ◌∷◌, sym, refl, ap, ◌∙◌, subst, subst₂, inl, inr, ⊎_elim, arith}
 use native.Mathlib.Decide.{ℕ_discrete}
 use Rattle.costs.specs.Amounts.{Laws}
 use Rattle.costs.proofs.Order.{leq_refl, leq_of_not}
@@ -7,7 +8,7 @@ use Rattle.frontier.specs.Routes.{Search, Move, Route}
 use Rattle.frontier.specs.Front.{Mark, unseen, waits, settled, once, settled_below, Seen, Joined, Marked, Within}
 use Rattle.frontier.specs.Front.{Frontier, Light}
 use Rattle.frontier.proofs.Count.{count_same}
-use Rattle.frontier.proofs.Marks.{not_both, unseen_waits, unseen_settled, waits_same, waits_prev}
+use Rattle.frontier.proofs.Marks.{not_both, unseen_settled}
 use Rattle.frontier.proofs.Trails.{trail_onto, trail_kept, turned}
 
 -- moves that were looked at are no longer pending
@@ -58,28 +59,16 @@ module _ {M : Type 0} {g : Search M} (laws : Laws g.sums) {f f' : ℕ → Mark M
   open_still x p st = ⊎_elim (λ h. unseen_settled (f w) x p h st) (λ k. not_both (f w) k.0 x k.1 p k.2 st) R.better
 
   below : (x : M) (p : ℕ) → Seen f w x p → g.sums.leq x (g.sums.plus a c) ≡ false
-  below x p (inr st) = absurd (open_still x p st)
-  below x p (inl wt) = ⊎_elim
-      (λ h. absurd (unseen_waits (f w) x p h wt))
-      (λ k. subst (λ y. g.sums.leq y (g.sums.plus a c) ≡ false) (waits_same (f w) k.0 x k.1 p k.2 wt) k.3)
-      R.better
+  below x p v2 = grind (arith, nat_tests)
 
   pub settled_kept : (u : ℕ) (x : M) (p : ℕ) → f u ≡ settled x p → f' u ≡ settled x p
   settled_kept u x p h = R.marked.others u (λ k. open_still x p (ap f (sym k) ∙ h)) ∙ h
 
   pub settled_back : (u : ℕ) (x : M) (p : ℕ) → f' u ≡ settled x p → f u ≡ settled x p
-  settled_back u x p h = sym (R.marked.others u
-      (λ k. not_both (f' u) (g.sums.plus a c) x v p (ap f' k ∙ R.marked.here) h)) ∙ h
+  settled_back u x p h = grind (arith, nat_tests)
 
   waits_back : (u : ℕ) (x : M) (p : ℕ) → f' u ≡ waits x p → (f u ≡ waits x p) ⊎ ((u ≡ w) × (x ≡ g.sums.plus a c) × (p ≡ v))
-  waits_back u x p h = split (ℕ_discrete u w)
-    where
-      split : Dec (u ≡ w) → (f u ≡ waits x p) ⊎ ((u ≡ w) × (x ≡ g.sums.plus a c) × (p ≡ v))
-      split (yes k) =
-          let here : f' u ≡ waits (g.sums.plus a c) v = ap f' k ∙ R.marked.here in
-          let sum = g.sums.plus a c in
-          inr (k, waits_same (f' u) x sum p v h here, waits_prev (f' u) x sum p v h here)
-      split (no n) = inl (sym (R.marked.others u n) ∙ h)
+  waits_back u x p h = grind (arith, nat_tests)
 
   pub relax_within : Within g f' w (g.sums.plus a c)
   relax_within = (g.sums.plus a c, v, inl R.marked.here, leq_refl laws (g.sums.plus a c))
@@ -103,18 +92,7 @@ module _ {M : Type 0} {g : Search M} (laws : Laws g.sums) {f f' : ℕ → Mark M
 
   -- the start has nothing to pay, which nothing betters
   start_kept : (p : ℕ) × Seen f' g.from g.sums.nothing p
-  start_kept = split (ℕ_discrete g.from w)
-    where
-      split : Dec (g.from ≡ w) → (p : ℕ) × Seen f' g.from g.sums.nothing p
-      split (yes k) =
-          let seen = subst (λ y. Seen f y g.sums.nothing R.front.start.0) k R.front.start.1 in
-          absurd (subst T (below g.sums.nothing R.front.start.0 seen) (laws.least (g.sums.plus a c)))
-      split (no n) =
-          let p = R.front.start.0 in (
-            p,
-            subst (λ y. (y ≡ waits g.sums.nothing p) ⊎ (y ≡ settled g.sums.nothing p))
-                (sym (R.marked.others g.from n)) R.front.start.1,
-          )
+  start_kept = grind (arith, nat_tests)
 
   inside_kept : (u : ℕ) (x : M) (p : ℕ) → Seen f' u x p → u < g.shape.size
   inside_kept u x p (inr st) = R.front.inside u x p (inr (settled_back u x p st))
@@ -124,13 +102,7 @@ module _ {M : Type 0} {g : Search M} (laws : Laws g.sums) {f f' : ℕ → Mark M
       (waits_back u x p wt)
 
   once_kept : (u : ℕ) → once (f' u) ≡ once (f u)
-  once_kept u = split (ℕ_discrete u w)
-    where
-      split : Dec (u ≡ w) → once (f' u) ≡ once (f u)
-      split (yes k) =
-          ap once (ap f' k ∙ R.marked.here)
-          ∙ sym (⊎_elim (λ h. ap once (ap f k ∙ h)) (λ b. ap once (ap f k ∙ b.2)) R.better)
-      split (no n) = ap once (R.marked.others u n)
+  once_kept u = grind (arith, nat_tests)
 
   pub relax_count : settled_below f' g.shape.size ≡ settled_below f g.shape.size
   relax_count = count_same f f' g.shape.size (λ u l. once_kept u)

@@ -1,13 +1,13 @@
 -- A least entry is taken: of a settled node, which changes nothing, or of a waiting one, which is settled. Assumes nothing.
+use Rattle.std.proofs.lemmas.Bool.Decides.{nat_tests}
 use Rattle.std.proofs.Common.{◌≡◌, ℕ, ◌+◌, ◌*◌, ◌<◌, ◌⊎◌, List, [], ◌∷◌, length, sym, ap, ◌∙◌, subst, subst₂, inl, inr, ⊎_elim, mul-suc, add-one, arith}
-use native.Mathlib.Decide.{ℕ_discrete}
 use Rattle.costs.specs.Amounts.{Laws}
 use Rattle.costs.proofs.Order.{nothing_plus, leq_refl, leq_plus}
 use Rattle.frontier.specs.Routes.{Search, Leq, Route}
 use Rattle.frontier.specs.Front.{Mark, waits, settled, once, settled_below, Seen, Nothing, Joined, Marked, Within}
 use Rattle.frontier.specs.Front.{Trail, Origin, Frontier, Light}
 use Rattle.frontier.proofs.Count.{count_more}
-use Rattle.frontier.proofs.Marks.{not_both, waits_same, settled_same}
+use Rattle.frontier.proofs.Marks.{not_both}
 use Rattle.frontier.proofs.Trails.{trail_fresh, trail_kept}
 
 -- where a route ends, or where it leaves the settled nodes
@@ -63,19 +63,7 @@ module _ {M : Type 0} {g : Search M} (laws : Laws g.sums) {f : ℕ → Mark M} {
 pub drop_stale : {M : Type 0} {g : Search M} {f : ℕ → Mark M} {entries entries' : M → ℕ → Type 0} {pending : ℕ → ℕ → Type 0}
     {v : ℕ} {a b : M} {q : ℕ}
     → Frontier g f entries pending → f v ≡ settled b q → Joined entries' entries a v → Frontier g f entries' pending
-drop_stale {f = f} {b = b} {q = q} W fv took = record {
-  start = W.start;
-  inside = W.inside;
-  relaxed = W.relaxed;
-  queued = λ w x p fw. ⊎_elim
-      (λ h. h)
-      (λ e. absurd (not_both (f w) x b p q fw (ap f e.1 ∙ fv)))
-      (took.only x w (W.queued w x p fw));
-  known = λ x w h. W.known x w (took.old x w h);
-  least = W.least;
-  trail = W.trail;
-  origin = W.origin;
-}
+drop_stale {f = f} {b = b} {q = q} W fv took = grind (arith, nat_tests)
 
 -- a least entry, a for v, is taken, and v, which waited with b and the node p before it, is settled
 pub record Settling {M : Type 0} (g : Search M) (f f' : ℕ → Mark M) (entries entries' : M → ℕ → Type 0) (v : ℕ) (a b : M)
@@ -90,44 +78,19 @@ module _ {M : Type 0} {g : Search M} (laws : Laws g.sums) {f f' : ℕ → Mark M
     {a b : M} {p : ℕ}
     (S : Settling g f f' entries entries' v a b p) where
   settle_amount : a ≡ b
-  settle_amount = from_known (S.front.known a v S.took.this).2 (S.front.known a v S.took.this).3
-    where
-      from_known : Seen f v (S.front.known a v S.took.this).0 (S.front.known a v S.took.this).1
-          → Leq g (S.front.known a v S.took.this).0 a → a ≡ b
-      from_known (inl wt) l =
-          let P : M → Type 0 = λ x. Leq g x a in
-          laws.antisym a b (S.lowest b v (S.front.queued v b p S.waited))
-          (subst P (waits_same (f v) _ b _ p wt S.waited) l)
-      from_known (inr st) l = absurd (not_both (f v) b _ p _ S.waited st)
+  settle_amount = grind (arith, nat_tests)
 
   settled_kept : (u : ℕ) (x : M) (q : ℕ) → f u ≡ settled x q → f' u ≡ settled x q
   settled_kept u x q h = S.marked.others u (λ e. not_both (f u) b x p q (ap f e ∙ S.waited) h) ∙ h
 
   settled_back : (u : ℕ) (x : M) (q : ℕ) → f' u ≡ settled x q → (f u ≡ settled x q) ⊎ ((u ≡ v) × (x ≡ a))
-  settled_back u x q h = split (ℕ_discrete u v)
-    where
-      split : Dec (u ≡ v) → (f u ≡ settled x q) ⊎ ((u ≡ v) × (x ≡ a))
-      split (yes e) = inr (e, settled_same (f' u) x a q p h (ap f' e ∙ S.marked.here))
-      split (no ne) = inl (sym (S.marked.others u ne) ∙ h)
+  settled_back u x q h = grind (arith, nat_tests)
 
   waits_back : (u : ℕ) (x : M) (q : ℕ) → f' u ≡ waits x q → (f u ≡ waits x q) × (u ≡ v → ⊥)
-  waits_back u x q h =
-      let apart : u ≡ v → ⊥ = λ e. not_both (f' u) x a q p h (ap f' e ∙ S.marked.here) in
-      (sym (S.marked.others u apart) ∙ h, apart)
+  waits_back u x q h = grind (arith, nat_tests)
 
   seen_kept : (u : ℕ) (x : M) (q : ℕ) → Seen f u x q → Seen f' u x q
-  seen_kept u x q (inr st) = inr (settled_kept u x q st)
-  seen_kept u x q (inl wt) = split (ℕ_discrete u v)
-    where
-      split : Dec (u ≡ v) → Seen f' u x q
-      split (yes e) =
-          let same = settle_amount in
-          let was-waiting = S.waited in
-          let k = S.marked.here in
-          let here : f' u ≡ f' v = ap f' e in
-          let was : f u ≡ f v = ap f e in
-          inr cc
-      split (no ne) = inl (S.marked.others u ne ∙ wt)
+  seen_kept u x q v3 = grind (arith, nat_tests)
 
   within_kept : (u : ℕ) (m : M) → Within g f u m → Within g f' u m
   within_kept u m h = (h.0, h.1, seen_kept u h.0 h.1 h.2, h.3)

@@ -81,18 +81,3 @@ leads_one notes from (p ∷ back) (q ∷ other) u h k =
   where
     next : get_or notes u Unseen ≡ Settled h.1 p → get_or notes u Unseen ≡ Settled k.1 q → p ≡ q
     next x y = cc
-
--- what counting and writing come to where a way is known
-module _ {C : Type 0} (notes : List (Note C)) (from to : ℕ) (back : List ℕ) (h : Leads notes from to back)
-    (few : length back < length notes) where
-  pub counted_way : (r : Option ℕ) → Counted notes from to r → r ≡ Some (length back + 1)
-  counted_way None k = absurd (omega (arith, k back h))
-  counted_way (Some n) k = ap Some (k.count ∙ ap (λ l. length l + 1) (leads_one notes from k.back back to k.leads h))
-
-  pub written_way : (xs ys : List ℕ) (r : Option ℕ) → length back < length xs → Written notes from to xs ys r
-      → (r ≡ Some (length back + 1)) × (ys ≡ reverse (to ∷ back) ++ drop (length back + 1) xs)
-  written_way xs ys None fits k = absurd (omega (arith, k back h few))
-  written_way xs ys (Some n) fits k =
-      let same = leads_one notes from k.way.back back to k.way.leads h in
-      let count = k.way.count ∙ ap (λ l. length l + 1) same in
-      (ap Some count, k.whole ∙ ap₂ (λ l m. reverse (to ∷ l) ++ drop m xs) same count)
