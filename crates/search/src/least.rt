@@ -45,6 +45,7 @@ impl<'a, K: CostKind, P: Pieces> Grid<'a, K, P> {
 }
 
 /// The least cost of a lawful path between the terminals of a request, by way of the lent lists; absent if there is no such path.
+// By a rule of the project the five lent lists are five parameters.
 pub fn least_cost<K: CostKind, P: Pieces>(
     request: &Request,
     kind: K,

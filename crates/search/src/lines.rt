@@ -55,6 +55,7 @@ fn put_pieces<P: Pieces>(queue: &mut Queue<'_, u32>, extent: &Extent, register: 
     requires { HasRoom (4 * length (P.pieces register.now)) queue.old }
     ensures { Puts (all_borders extent.now (P.pieces register.now)) queue.old queue.new }
 {
+    // by number: of a register only the count and the k-th piece are asked
     for k in 0..register.count() {
         let piece = register.piece(k).unwrap();
         if different_nets(piece.net, extent.net) {

@@ -99,6 +99,7 @@ impl Lattice {
         ensures { result ≡ neighbour self.now way c.now }
     {
         let mut next = *c;
+        // one arm for each way: a coordinate that is chosen by a value would be matched on twice
         match way {
             Way::Left if c.column > 0 => next.column = c.column - 1,
             Way::Right if c.column < self.columns.saturating_sub(1) => next.column = c.column + 1,
