@@ -1,11 +1,12 @@
 -- The least cost along the lines of a request is the least cost of its paths. Assumes nothing.
-use Rattle.std.proofs.Common.{◌≡◌, ℕ, ◌*◌, ◌≤◌, false, ◌&&◌, T, eqb, leb, List, [], ◌∷◌, map, reverse, length, get_or, Some, None, Ok, Option, MatchOption, IfSome, sym, refl, ap, ◌∙◌, subst, inl, inr, arith, leb→le}
+use Rattle.std.proofs.Common.{◌≡◌, ℕ, ◌*◌, ◌<◌, ◌≤◌, ◌||◌, false, ◌&&◌, T, eqb, leb, List, [], ◌∷◌, map, reverse, length, get_or, Some, None, Ok, Option, MatchOption, IfSome, sym, refl, ap, ◌∙◌, subst, inl, inr, arith, leb→le}
 use lib.Dec.{eqb_refl}
 use Rattle.std.specs.List.{IsDistinct}
-use Rattle.std.proofs.lemmas.Bool.{cases_lt}
+use Rattle.std.proofs.lemmas.Bool.{cases_lt, lt-leb}
 use Rattle.std.proofs.Math.ListN.{get_or-eq_default}
 use Rattle.costs.specs.Amounts.{Sums, Laws, Prices, Tariff, tariff}
 use Rattle.frontier.specs.declared.note.Note.{Note}
+use Rattle.frontier.specs.Findings.{unfit}
 use Rattle.frontier.specs.Held.{marks, Traced}
 use Rattle.frontier.proofs.Trails.{turned, trail_route}
 use Rattle.frontier.specs.Routes.{Search, Route, LeastCost, HasNoRoute}
@@ -78,6 +79,11 @@ ruled_grid ps g is_proper of = record {
   right = lines_below (request_lines g.request X ps) g.xs.now g.request.size.width of.across.same (lines_on g.request is_proper X ps);
   top = lines_below (request_lines g.request Y ps) g.ys.now g.request.size.height of.upright.same (lines_on g.request is_proper Y ps);
 }
+
+-- a search between two nodes is refused only for short lists
+pub unfit_nodes : (size from to j k : ℕ) → from < size → to < size → unfit size from to j k ≡ nodes_short size j k
+unfit_nodes size from to j k h h' =
+    ap (λ b. b || (leb size to || nodes_short size j k)) (lt-leb size from h) ∙ ap (λ b. b || nodes_short size j k) (lt-leb size to h')
 
 -- the nodes of a grid are those of the request
 pub total_request : {K P : Type 0} (ps : List Piece) (g : Grid K P) → GridOf ps g → node_total g.lattice ≡ request_nodes g.request ps

@@ -1,7 +1,7 @@
 // The least cost of a request.
 ghost use Rattle.std.specs.Prelude.{◌≡◌, true, T, length};
 ghost use Rattle.costs.specs.Amounts.{tariff};
-ghost use Rattle.search.specs.Requests.{proper, nodes_short};
+ghost use Rattle.search.specs.Requests.{proper};
 ghost use Rattle.search.specs.Told.{GridOf, LedBack, ToldPath, ToldCost, is_early};
 
 use crate::drawing::draw_lattice;
@@ -10,13 +10,6 @@ use crate::request::{Refusal, Request};
 use costs::CostKind;
 use frontier::{Entry, Graph, Note, find_least};
 use registers::Pieces;
-
-/// Whether the list of notes or the frontier's is too short for so many nodes.
-fn nodes_short(n: u32, notes: usize, entries: usize) -> bool
-    ensures { result ≡ nodes_short n notes entries }
-{
-    notes < n as usize || entries < 6 * n as usize + 1
-}
 
 impl<'a, K: CostKind, P: Pieces> Grid<'a, K, P> {
     /// The least cost of a lawful path between the terminals of the grid's request, absent if there is no such path.
@@ -30,17 +23,16 @@ impl<'a, K: CostKind, P: Pieces> Grid<'a, K, P> {
         ensures led { proper self.now.request ≡ true → GridOf (P.Pieces.pieces self.now.register.now) self.now
             → LedBack (tariff K.Amount.Amount.sums K.Amount.Amount.means (K.CostKind.prices self.now.kind)) K.Amount.Amount.means (P.Pieces.pieces self.now.register.now) self.now nodes.new result }
     {
-        let n = self.lattice.size();
-        if nodes_short(n, nodes.len(), frontier.len()) {
-            return Err(Refusal::ShortNodes(n));
-        }
         let (Some(from), Some(to)) = (
             self.node(&self.request.first),
             self.node(&self.request.second),
         ) else {
             return Ok(None);
         };
-        Ok(find_least(self, from, to, nodes, frontier).unwrap())
+        match find_least(self, from, to, nodes, frontier) {
+            Ok(found) => Ok(found),
+            Err(_) => Err(Refusal::ShortNodes(self.lattice.size())),
+        }
     }
 }
 
