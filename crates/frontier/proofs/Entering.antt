@@ -1,5 +1,5 @@
 -- Entries that come and go, in a list in any order. Assumes nothing.
-use Rattle.std.proofs.Common.{◌≡◌, ℕ, zero, suc, ◌+◌, ◌<◌, ◌≤◌, false, T, Ok, Err, Result, MatchResult, ◌⊎◌, List, ◌∷◌, length, get_or, sym, refl, ap, ◌∙◌, subst, inl, inr, ⊎_elim, arith}
+use Rattle.std.proofs.Common.{◌≡◌, ℕ, zero, suc, ◌<◌, false, T, ◌⊎◌, List, ◌∷◌, length, get_or, sym, refl, ap, ◌∙◌, subst, inl, inr, ⊎_elim, arith}
 use Rattle.std.specs.List.{ContainsAt as Has}
 use Rattle.std.specs.List.Sorted.{IsPermutation}
 use Rattle.std.proofs.ByRecursion.{all-has, has_shuffled}
@@ -10,11 +10,6 @@ use Rattle.frontier.specs.declared.entry.Entry.{Entry}
 use Rattle.frontier.specs.Entries.{cheaper, holds_from_not}
 use Rattle.frontier.specs.Front.{Joined}
 use Rattle.frontier.specs.Held.{Waits}
-
--- one entry more or as many as before
-pub when_few : {T E : Type 0} (r : Result T E) (m n : ℕ) → MatchResult r (λ _. m ≡ n + 1) (λ _. m ≡ n) → m ≤ n + 1
-when_few (Ok x) m n h = omega arith
-when_few (Err e) m n h = omega arith
 
 has_head : {X : Type 0} (x : X) (xs : List X) → Has (x ∷ xs) x
 has_head x xs = (0, omega arith, λ d. refl)

@@ -50,10 +50,6 @@ module _ {C M : Type 0} {g : Search M} {means : C → M} {v : ℕ} {a : M} {note
         tally = omega (arith, H.tally);
       }
 
-  -- there is room for one entry more
-  pub look_spare : (k : ℕ) → k < 6 → Looking g means v a notes entries k → length entries < 6 * g.shape.size + 1
-  look_spare k early L = omega (arith, L.holds.tally, count_le (marks means notes) g.shape.size)
-
 module _ {C M : Type 0} {g : Search M} (laws : Laws g.sums) {means : C → M} {v k : ℕ} {a : M} {notes : List (Note C)}
     {entries : List (Entry C)}
     (early : k < 6) (L : Looking g means v a notes entries k) where

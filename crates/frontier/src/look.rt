@@ -1,6 +1,6 @@
 // The neighbours of a node that was settled are looked at.
-ghost use Rattle.std.specs.Prelude.{◌≡◌, ◌<◌};
-ghost use Rattle.queue.specs.Waiting.{waiting, Keeps};
+ghost use Rattle.std.specs.Prelude.{◌≡◌, ◌+◌, ◌*◌, ◌<◌, ◌≤◌};
+ghost use Rattle.queue.specs.Waiting.{waiting, size, Keeps};
 ghost use Rattle.frontier.specs.Entries.{cheaper};
 ghost use Rattle.frontier.specs.Held.{mark, worth, LookedAt, LookedRound, Stays};
 
@@ -27,6 +27,7 @@ impl<C: Amount, G: Graph<C>> Search<'_, '_, '_, '_, C, G> {
     fn look_at(&mut self, node: u32, amount: C, k: u32)
         requires node { node < (G.shape self.old.graph.now).size }
         requires way { k < 6 }
+        requires few { size self.old.queue.now ≤ 6 * (G.shape self.old.graph.now).size }
         ensures looking { LookedAt
             C.sums C.means (G.shape self.old.graph.now) (G.price C.sums C.means self.old.graph.now) node (C.means amount) k
             self.old.notes.now (waiting self.old.queue.now) self.new.notes.now (waiting self.new.queue.now) }
@@ -49,15 +50,17 @@ impl<C: Amount, G: Graph<C>> Search<'_, '_, '_, '_, C, G> {
             return;
         }
         self.notes[neighbour as usize] = Note::Waiting(sum, node);
-        let _ = self.queue.put(Entry {
+        let entry = Entry {
             amount: sum,
             node: neighbour,
-        });
+        };
+        self.queue.put(entry).unwrap();
     }
 
     /// Looks at all neighbours of a settled node.
     pub(crate) fn look_round(&mut self, node: u32, amount: C)
         requires node { node < (G.shape self.old.graph.now).size }
+        requires few { size self.old.queue.now + 5 ≤ 6 * (G.shape self.old.graph.now).size }
         ensures holds { LookedRound
             C.sums C.means (G.shape self.old.graph.now) (G.price C.sums C.means self.old.graph.now) node (C.means amount)
             self.old.notes.now (waiting self.old.queue.now) self.new.notes.now (waiting self.new.queue.now) }

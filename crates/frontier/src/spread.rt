@@ -29,12 +29,11 @@ impl<C: Amount, G: Graph<C>> Search<'_, '_, '_, '_, C, G> {
     {
         let none = C::zero();
         self.notes[from as usize] = Note::Waiting(none, from);
-        self.queue
-            .put(Entry {
-                amount: none,
-                node: from,
-            })
-            .unwrap();
+        let start = Entry {
+            amount: none,
+            node: from,
+        };
+        self.queue.put(start).unwrap();
         loop {
             let Some(entry) = self.queue.take() else {
                 return None;

@@ -8,6 +8,7 @@ use Rattle.frontier.specs.declared.note.Note.TheVariants.{Settled}
 use Rattle.frontier.specs.Routes.{search_from}
 use Rattle.frontier.specs.Front.{waits}
 use Rattle.frontier.specs.Held.{mark, marks, LookedRound, Stays}
+use Rattle.frontier.proofs.Count.{count_le}
 use Rattle.frontier.proofs.Noting.{mark_at}
 use Rattle.frontier.proofs.Turn.{begin_held, begin_open, none_held, not_waiting, Taken}
 use Rattle.frontier.proofs.Turn.{turn_node, turn_stale, turn_reached, turn_looking, turn_open, turn_wanes}
@@ -36,15 +37,12 @@ loop-entry-init g c =
       e.order c.requires.order,
     )
 
-pub returns-in_default : goal.returns-in_default
-returns-in_default g c =
+pub returns-in_default-clause-answer : goal.returns-in_default-clause-answer
+returns-in_default-clause-answer g c =
     let m = g.C.Amount in
     let i = c.loop-entry.invariant in
-    record {
-      answer = none_held _ m.laws m.means c.loop-entry.self.notes.now (waiting c.loop-entry.self.queue.now) i.2
-          c.in_default.ensures.len c.args.to i.3;
-      notes = i.1;
-    }
+    none_held _ m.laws m.means c.loop-entry.self.notes.now (waiting c.loop-entry.self.queue.now) i.2 c.in_default.ensures.len
+    c.args.to i.3
 
 -- what the queue says of the entry
 taken : (g : given.Over) (c : In-Some g)
@@ -91,21 +89,23 @@ offset_bounds-self-entry-in-Waiting g c =
     let h = first_fits g (goal.at.offset_bounds-self-entry-in-Waiting g c).In-Some in
     search rules
 
-pub returns-then-entry-to : goal.returns-then-entry-to
-returns-then-entry-to g c =
-    let s = goal.at.returns-then-entry-to g c in
-    let m = g.C.Amount in
+pub returns-then-entry-to-clause-answer : goal.returns-then-entry-to-clause-answer
+returns-then-entry-to-clause-answer g c =
+    let s = goal.at.returns-then-entry-to-clause-answer g c in
     let was = waited g s.In-Waiting (fits g s.In-Some) in
-    record {
-      answer = turn_reached m.laws (taken g s.In-Some) was c.args.to c.if-entry-to.true;
-      notes = c.loop-entry.invariant.1;
-    }
+    turn_reached g.C.Amount.laws (taken g s.In-Some) was c.args.to c.if-entry-to.true
 
 pub look_round-requires : goal.look_round-requires
 look_round-requires g c =
     let s = goal.at.look_round-requires g c in
     let same = ap (λ r. (g.G.Graph.shape r.now).size) c.loop-entry.invariant.0 in
-    omega (arith, same, turn_node g.C.Amount.laws (taken g s.In-Some))
+    let laws = g.C.Amount.laws in
+    let K = taken g s.In-Some in
+    let L = turn_looking laws K (waited g s.In-Waiting (fits g s.In-Some)) in
+    let below = count_le (marks g.C.Amount.means
+    (set c.loop-entry.self.notes.now c.in-Some.entry.node (Settled c.in-Some.entry.amount c.in-Waiting.before)))
+    (g.G.Graph.shape c.args.self.now.graph.now).size in
+    record { node = omega (arith, same, turn_node laws K); few = omega (arith, same, below, L.holds.tally) }
 
 -- what the neighbours' turn comes to, by the graph that the search began with
 round : (g : given.Over) (c : After-look_round g) →
@@ -149,9 +149,6 @@ loop-entry-preserved-in-Waiting g c =
       turn_open laws K was r.1 c.args.to c.if-entry-to.false i.3,
       e.order (t.order i.4),
     )
-
-pub loop-entry-smaller : goal.loop-entry-smaller
-loop-entry-smaller g c = omega (arith, c.in-Some.ensures.len)
 
 pub loop-entry-preserved : goal.loop-entry-preserved
 loop-entry-preserved g c =
