@@ -1,8 +1,8 @@
 -- Counting and writing the nodes that notes lead back. Assumes nothing.
 use Rattle.std.proofs.lemmas.Bool.Decides.{nat_tests}
-use Rattle.std.proofs.Common.{◌≡◌, ℕ, ◌+◌, ◌<◌, ◌≤◌, List, [], ◌∷◌, ◌++◌, length, take, set, Some, sym, refl, ap, ◌∙◌, arith, append_assoc, append-nil, length-set}
+use Rattle.std.proofs.Common.{◌≡◌, ℕ, ◌+◌, ◌<◌, List, [], ◌∷◌, ◌++◌, length, take, set, Some, sym, ap, ◌∙◌, arith, append_assoc, length-set}
 use Rattle.std.specs.Option.{unwrap_or}
-use Rattle.std.proofs.lemmas.List.{take_all, take_more_set}
+use Rattle.std.proofs.lemmas.List.{take_more_set}
 use Rattle.frontier.specs.declared.note.Note.{Note}
 use Rattle.frontier.specs.Ways.{previous_node, before_of, Leads}
 
@@ -30,10 +30,6 @@ module _ {C : Type 0} (notes : List (Note C)) (from : ℕ) where
     pub leads : LeadsOn u ahead
     pub whole : take i way ++ ahead ≡ nodes
 
-  pub fill_start : (to : ℕ) (back way : List ℕ) → Leads notes from to back → length way ≡ length back + 1
-      → Filling to 0 way (to ∷ back)
-  fill_start to back way h long = record { ahead = to ∷ back; long = omega arith; leads = (refl, h); whole = refl }
-
   pub fill_step : (u i : ℕ) (way nodes : List ℕ) → i < length way → Filling u i way nodes
       → Filling (unwrap_or (before_of notes u) u) (i + 1) (set way i u) nodes
   fill_step u i way nodes fits F = go F.ahead F.long F.leads F.whole
@@ -54,10 +50,3 @@ module _ {C : Type 0} (notes : List (Note C)) (from : ℕ) where
         whole = ap (λ ns. ns ++ rest) (take_more_set way i u fits) ∙ append_assoc (take i way) (u ∷ []) rest
             ∙ ap (λ n. take i way ++ n ∷ rest) (sym h.0) ∙ w;
       }
-
-  pub fill_end : (u i : ℕ) (way nodes : List ℕ) → length way ≤ i → Filling u i way nodes → way ≡ nodes
-  fill_end u i way nodes all F = go F.ahead F.long F.whole
-    where
-      go : (ahead : List ℕ) → i + length ahead ≡ length way → take i way ++ ahead ≡ nodes → way ≡ nodes
-      go [] l w = sym (take_all i way all) ∙ sym (append-nil (take i way)) ∙ w
-      go (x ∷ rest) l w = absurd (omega arith)

@@ -2,7 +2,6 @@ pub mod Count
 pub mod Ends
 pub mod Entering
 pub mod Filling
-pub mod Fit
 pub mod Looks
 pub mod Marks
 pub mod Noting

@@ -1,14 +1,12 @@
 -- One note of the list is changed. Assumes nothing.
-use Rattle.std.proofs.lemmas.Bool.Decides.{nat_tests}
-use Rattle.std.proofs.Common.{◌≡◌, ℕ, ◌+◌, ◌<◌, ◌≤◌, true, false, ◌⊎◌, List, length, get_or, set, replicate, ⊎_elim, sym, refl, ap, ◌∙◌, inl, inr, arith, get_or-set_other, get_or-set_same}
+use Rattle.std.proofs.Common.{◌≡◌, ℕ, ◌+◌, ◌<◌, ◌≤◌, true, false, ◌⊎◌, List, length, get_or, set, sym, refl, ap, ◌∙◌, inl, inr, get_or-set_other, get_or-set_same}
 use native.Mathlib.Decide.{ℕ_discrete}
 use borrow.Author.Tests.{clash, not-true, not-false}
-use Rattle.std.proofs.lemmas.List.{get_or_default, get_or_past, get_or-replicate, length-replicate}
-use Rattle.std.proofs.lemmas.Bool.{cases_lt}
+use Rattle.std.proofs.lemmas.List.{get_or_default}
 use Rattle.costs.specs.Amounts.{Sums}
 use Rattle.frontier.specs.declared.entry.Entry.{Entry}
 use Rattle.frontier.specs.declared.note.Note.{Note}
-use Rattle.frontier.specs.declared.note.Note.TheVariants.{Unseen, Waiting, Settled}
+use Rattle.frontier.specs.declared.note.Note.TheVariants.{Unseen, Waiting}
 use Rattle.frontier.specs.Front.{Mark, unseen, waits, settled, once, Marked}
 use Rattle.frontier.specs.Held.{mark, marks, worth, Stays}
 use Rattle.frontier.proofs.Count.{count_same}
@@ -32,20 +30,6 @@ worth_open sums unseen sum h = refl
 worth_open sums (waits b p) sum h = refl
 worth_open sums (settled b p) sum h = absurd (clash h)
 
--- a clone of the note of an unseen node is that note
-pub only_unseen : {C : Type 0} (P : Note C → Type 0) → ((a : C) (p : ℕ) → P (Waiting a p) → ⊥) → ((a : C) (p : ℕ) → P (Settled a p) → ⊥)
-    → (y : Note C) → P y → y ≡ Unseen
-only_unseen P w s Unseen h = refl
-only_unseen P w s (Waiting a p) h = absurd (w a p h)
-only_unseen P w s (Settled a p) h = absurd (s a p h)
-
--- the notes before any node was seen
-pub blank_notes : {C : Type 0} (notes : List (Note C)) (n : ℕ) → notes ≡ replicate n Unseen → (k : ℕ) → get_or notes k Unseen ≡ Unseen
-blank_notes {C} notes n e k = ap (λ l. get_or l k Unseen) e ∙ ⊎_elim
-    (λ (l : k < n). get_or-replicate n k Unseen Unseen l)
-    (λ (l : n ≤ k). get_or_past (replicate n Unseen) k Unseen (omega (arith, length-replicate {A = Note C} n Unseen)))
-    (cases_lt k n)
-
 module _ {C M : Type 0} (means : C → M) where
   pub marked : (notes : List (Note C)) (w : ℕ) (x : Note C) → w < length notes
       → Marked (marks means notes) (marks means (set notes w x)) w (mark means x)
@@ -58,14 +42,6 @@ module _ {C M : Type 0} (means : C → M) where
   pub mark_at : (notes : List (Note C)) (v : ℕ) (note : Note C) → v < length notes
       → mark means (get_or notes v note) ≡ marks means notes v
   mark_at notes v note l = ap (mark means) (get_or_default notes v note Unseen l)
-
-  pub stays_same : (size : ℕ) (notes : List (Note C)) (entries : List (Entry C)) (n : ℕ)
-      → Stays size means notes notes entries entries n
-  stays_same size notes entries n = record { same = refl; kept = λ u x p h. h; few = omega arith }
-
-  pub stays_trans : (size : ℕ) (l₁ l₂ l₃ : List (Note C)) (e₁ e₂ e₃ : List (Entry C)) (m n : ℕ)
-      → Stays size means l₁ l₂ e₁ e₂ m → Stays size means l₂ l₃ e₂ e₃ n → Stays size means l₁ l₃ e₁ e₃ (m + n)
-  stays_trans size l₁ l₂ l₃ e₁ e₂ e₃ m n h k = grind (arith, nat_tests)
 
   -- a node that was not settled is noted as waiting
   pub stays_put : (size : ℕ) (notes : List (Note C)) (w : ℕ) (sum : C) (p : ℕ) (entries entries' : List (Entry C)) (sums : Sums M)

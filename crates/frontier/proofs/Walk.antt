@@ -1,5 +1,5 @@
 -- Following the notes back to the start. Assumes nothing.
-use Rattle.std.proofs.Common.{◌≡◌, ℕ, ◌+◌, ◌<◌, List, [], ◌∷◌, ◌++◌, reverse, length, get_or, drop, Some, None, Option, MatchOption, IfSome, sym, refl, ap, ◌∙◌, subst, ap₂, arith}
+use Rattle.std.proofs.Common.{◌≡◌, ℕ, ◌<◌, List, [], ◌∷◌, ◌++◌, length, get_or, Some, None, Option, MatchOption, IfSome, sym, refl, ap, ◌∙◌, subst, arith}
 use native.Mathlib.Decide.{dec_lt}
 use Rattle.std.specs.List.{AllByRecursion}
 use Rattle.std.proofs.lemmas.List.{get_or_past, get_or_append_left}
@@ -8,7 +8,7 @@ use Rattle.frontier.specs.declared.note.Note.TheVariants.{Unseen, Waiting, Settl
 use Rattle.frontier.specs.Routes.{Search, HasNoRoute}
 use Rattle.frontier.specs.Front.{settled, Trail}
 use Rattle.frontier.specs.Held.{mark, marks, Traced, Reached}
-use Rattle.frontier.specs.Ways.{Leads, Counted, Written}
+use Rattle.frontier.specs.Ways.{Leads}
 use Rattle.frontier.proofs.Trails.{trail_kept}
 
 mark_settled : {C M : Type 0} (means : C → M) (x : Note C) (b : M) (p : ℕ)

@@ -1,10 +1,7 @@
-use Rattle.std.proofs.Common.{◌+◌, ◌∷◌, set, reverse, ap, ◌∙◌, subst, arith, sym}
+use Rattle.std.proofs.Common.{◌+◌, ◌∷◌, set, ap, ◌∙◌, subst, arith, sym}
 use Rattle.std.specs.Option.{unwrap_or}
-use Rattle.frontier.proofs.Filling.{Filling, fill_start, fill_step, fill_end}
+use Rattle.frontier.proofs.Filling.{Filling, fill_step}
 use Rattle.frontier.proofs.way.fill_back.Goals as goal
-
-pub loop-slot-init : goal.loop-slot-init
-loop-slot-init g c = λ from back h long. fill_start c.args.notes.now from c.args.to back c.args.way.now h long
 
 pub loop-slot-preserved : goal.loop-slot-preserved
 loop-slot-preserved g c = λ from back h long.
@@ -12,9 +9,3 @@ loop-slot-preserved g c = λ from back h long.
     let next = c.unwrap_or-node.ensures ∙ ap (λ o. unwrap_or o l.node) c.before-in-loop-slot.ensures in
     subst (λ n. Filling c.args.notes.now from n (l.slot-index + 1) (set l.way l.slot-index l.node) (c.args.to ∷ back)) (sym next)
     (fill_step c.args.notes.now from l.node l.slot-index l.way (c.args.to ∷ back) (omega arith) (l.invariant from back h long))
-
-pub returns : goal.returns
-returns g c = λ from back h long.
-    let l = c.loop-slot in
-    c.reverse.ensures.after ∙ ap reverse
-    (fill_end c.args.notes.now from l.node l.slot-index l.way (c.args.to ∷ back) (omega arith) (l.invariant from back h long))

@@ -1,10 +1,7 @@
-use Rattle.std.proofs.Common.{◌≡◌, ℕ, [], ◌∷◌, sym, refl, subst, arith}
+use Rattle.std.proofs.Common.{◌≡◌, ℕ, [], ◌∷◌, sym, subst, arith}
 use Rattle.frontier.specs.Ways.{Leads, Counted}
 use Rattle.frontier.proofs.Filling.{next_node, leads_more}
 use Rattle.frontier.proofs.way.way_len.Goals as goal
-
-pub loop-count-init : goal.loop-count-init
-loop-count-init g c = (λ back h. (back, h, refl), λ rest h. (rest, h, refl))
 
 pub returns-then-node-from : goal.returns-then-node-from
 returns-then-node-from g c =
@@ -36,6 +33,3 @@ loop-count-preserved g c =
           let r = c.loop-count.invariant.1 (c.in_ok-node.node ∷ rest) more in
           (r.0, r.1, omega (arith, r.2)),
     )
-
-pub returns : goal.returns
-returns g c = λ back h. omega (arith, (c.loop-count.invariant.0 back h).2, c.max-count-end.ensures)
