@@ -50,6 +50,7 @@ impl Chain {
         ensures { result ≡ chain_near q.now self.now }
     {
         let out = q.reach as u32 + q.space.max(self.space) as u32;
+        // one axis of a zone is a pair that its callers take apart
         let (low, high) = zone_axis(&self.y, out);
         low < q.area.y.high as i64 && (q.area.y.low as i64) < high
     }
