@@ -3,6 +3,7 @@ ghost use Rattle.std.specs.Prelude.{◌≡◌, List, ℕ, Option, drop, OnOk};
 ghost use Rattle.std.specs.Iterator.{item_count};
 ghost use Rattle.std.specs.Result.{result_err};
 ghost use Rattle.job.specs.Text.{words};
+ghost use Rattle.job.specs.Numbers.{number};
 ghost use Rattle.job.specs.Reading.{NextWord, Computes, left, of_words, read_by, read_numbers, read_end};
 
 use crate::number::parse_number;
@@ -44,7 +45,10 @@ impl<'a> WordReader<'a> {
     }
 
     /// The next word, as what `parse` makes of its bytes.
-    pub fn read<T, F: FnOnce(&[u8]) -> Option<T>>(&mut self, parse: F) -> Result<T, Unreadable>
+    pub(crate) fn read<T, F: FnOnce(&[u8]) -> Option<T>>(
+        &mut self,
+        parse: F,
+    ) -> Result<T, Unreadable>
         requires { F.IsAlwaysCallable parse }
         ensures answer { (value : List ℕ → Option T) → Computes F.FnOnce parse value → result ≡ of_words (read_by value) self.old }
         ensures words { left self.new ≡ drop 1 (left self.old) }
@@ -55,6 +59,15 @@ impl<'a> WordReader<'a> {
         parse(word.text).ok_or(Unreadable { place: word.place })
     }
 
+    /// The next word as a number.
+    pub fn number(&mut self) -> Result<u32, Unreadable>
+        ensures answer { result ≡ of_words (read_by number) self.old }
+        ensures words { left self.new ≡ drop 1 (left self.old) }
+        ensures line { self.new.line.now ≡ self.old.line.now }
+    {
+        self.read(parse_number)
+    }
+
     /// The next words as numbers.
     pub fn numbers<const N: usize>(&mut self) -> Result<[u32; N], Unreadable>
         ensures answer { result ≡ of_words (read_numbers N) self.old }
@@ -63,7 +76,7 @@ impl<'a> WordReader<'a> {
     {
         let mut values = [0; N];
         for value in values.iter_mut() {
-            *value = self.read(parse_number)?;
+            *value = self.number()?;
         }
         Ok(values)
     }

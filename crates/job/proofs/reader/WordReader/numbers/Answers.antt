@@ -1,4 +1,4 @@
-use Rattle.std.proofs.Common.{rules, ◌≡◌, ℕ, ◌<◌, List, length, take, drop, Ok, Err, sym, ap, ◌∙◌, arith, length-set}
+use Rattle.std.proofs.Common.{◌≡◌, ℕ, ◌<◌, List, length, take, drop, Ok, Err, sym, ap, ◌∙◌, arith, length-set}
 use Rattle.std.proofs.lemmas.List.{take_more_set, drop-drop, take_all}
 use Rattle.std.proofs.lemmas.Result.{err_from_is_err_and}
 use Rattle.job.specs.Text.{WordAt}
@@ -12,7 +12,7 @@ returns-in_err-value-clause-answer g c =
     let p = err_from_is_err_and c.from_residual.result c.from_residual.ensures.1 in
     let end : ℕ = length c.args.self.now.line.now in
     let ws : List WordAt = left c.loop-value.self in
-    let read : c.read.result ≡ of_words (read_by number) c.loop-value.self = c.read.ensures.answer number (λ word x r. search rules) in
+    let read : c.number.result ≡ of_words (read_by number) c.loop-value.self = c.number.ensures.answer in
     let stop : read_by number end ws ≡ Err c.in_err-value.field-0.0 =
     ap (λ l. read_by number (length l) ws) (sym c.loop-value.invariant.2) ∙ (sym read ∙ c.in_err-value.was) in
     rw (p.1, p.2) (sym (c.loop-value.invariant.0 ∙ read_stops (take c.loop-value.value-index c.loop-value.value-items) g.row.N c.loop-value.value-index end ws _ c.loop-value-test.true stop))
@@ -23,14 +23,14 @@ loop-value-preserved g c =
     let n : ℕ = c.in_ok-value.field-0 in
     let end : ℕ = length c.args.self.now.line.now in
     let ws : List WordAt = left c.loop-value.self in
-    let read : c.read.result ≡ of_words (read_by number) c.loop-value.self = c.read.ensures.answer number (λ word x r. search rules) in
+    let read : c.number.result ≡ of_words (read_by number) c.loop-value.self = c.number.ensures.answer in
     let goes : read_by number end ws ≡ Ok n =
     ap (λ l. read_by number (length l) ws) (sym c.loop-value.invariant.2) ∙ (sym read ∙ c.in_ok-value.was) in
     let within : i < length c.loop-value.value-items = omega (arith, c.loop-value.invariant.3, c.loop-value-test.true) in (
       c.loop-value.invariant.0 ∙ (read_goes_on (take i c.loop-value.value-items) g.row.N i end ws n c.loop-value-test.true goes
-          ∙ rw (take_more_set c.loop-value.value-items i n within, c.read.ensures.words)),
-      c.read.ensures.words ∙ (ap (drop 1) c.loop-value.invariant.1 ∙ drop-drop 1 i (left c.args.self.now)),
-      c.read.ensures.line ∙ c.loop-value.invariant.2,
+          ∙ rw (take_more_set c.loop-value.value-items i n within, c.number.ensures.words)),
+      c.number.ensures.words ∙ (ap (drop 1) c.loop-value.invariant.1 ∙ drop-drop 1 i (left c.args.self.now)),
+      c.number.ensures.line ∙ c.loop-value.invariant.2,
       length-set c.loop-value.value-items i n ∙ c.loop-value.invariant.3,
     )
 
