@@ -7,6 +7,7 @@ use costs::Amount;
 
 /// A graph of nodes with at most six neighbours each, some of the 0th to the 5th.
 /// What is answered for numbers that are no nodes or no neighbours, and for a k above 5, is free.
+// The k is an index: names for six directions would be those of a grid, of which a graph knows nothing.
 pub trait Graph<C: Amount> {
     ghost shape: { Self → Shape };
 

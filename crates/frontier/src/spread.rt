@@ -35,6 +35,7 @@ impl<C: Amount, G: Graph<C>> Search<'_, '_, '_, '_, C, G> {
         };
         self.queue.put(start).unwrap();
         loop {
+            // by a rule of the project, here it is answered that there is no route
             let Some(entry) = self.queue.take() else {
                 return None;
             };

@@ -19,6 +19,7 @@ pub fn way_len<C: Copy>(notes: &[Note<C>], from: u32, to: u32) -> Option<usize>
     ensures { Counted notes.now from to result }
 {
     let mut node = to;
+    // a way that is the start alone wants no note
     for count in 1..=notes.len().max(1) {
         if node == from {
             return Some(count);
@@ -29,6 +30,7 @@ pub fn way_len<C: Copy>(notes: &[Note<C>], from: u32, to: u32) -> Option<usize>
 }
 
 /// Writes the nodes that the notes lead back from a node, the last of them first.
+// Forwards, and then reversed: nothing is known of what is written through `iter_mut().rev()`.
 fn fill_back<C: Copy>(notes: &[Note<C>], to: u32, way: &mut [u32])
     ensures { (from : ℕ) (back : List ℕ) → Leads notes.now from to back
         → length way.old ≡ length back + 1 → way.new ≡ reverse (to ∷ back) }
