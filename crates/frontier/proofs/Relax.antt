@@ -59,7 +59,7 @@ module _ {M : Type 0} {g : Search M} (laws : Laws g.sums) {f f' : ℕ → Mark M
   open_still x p st = ⊎_elim (λ h. unseen_settled (f w) x p h st) (λ k. not_both (f w) k.0 x k.1 p k.2 st) R.better
 
   below : (x : M) (p : ℕ) → Seen f w x p → g.sums.leq x (g.sums.plus a c) ≡ false
-  below x p v2 = grind (arith, nat_tests)
+  below x p h = grind (arith, nat_tests)
 
   pub settled_kept : (u : ℕ) (x : M) (p : ℕ) → f u ≡ settled x p → f' u ≡ settled x p
   settled_kept u x p h = R.marked.others u (λ k. open_still x p (ap f (sym k) ∙ h)) ∙ h

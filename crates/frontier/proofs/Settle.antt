@@ -90,7 +90,7 @@ module _ {M : Type 0} {g : Search M} (laws : Laws g.sums) {f f' : ℕ → Mark M
   waits_back u x q h = grind (arith, nat_tests)
 
   seen_kept : (u : ℕ) (x : M) (q : ℕ) → Seen f u x q → Seen f' u x q
-  seen_kept u x q v3 = grind (arith, nat_tests)
+  seen_kept u x q h = grind (arith, nat_tests)
 
   within_kept : (u : ℕ) (m : M) → Within g f u m → Within g f' u m
   within_kept u m h = (h.0, h.1, seen_kept u h.0 h.1 h.2, h.3)

@@ -15,12 +15,12 @@ use Rattle.geometry.specs.Zones.{widened, moved_out, zone, crosses, meets, is_la
 use Rattle.routes.specs.Routes.{along_x, along_y, to_layer, after}
 use Rattle.routes.specs.Rules.{ask, free, rules_of, clear_of}
 use Rattle.routes.specs.Claims.{RunKeepsClear, ViaKeepsClear, ClearPiecesKeepClear}
-use Rattle.routes.proofs.Bools.{either, first, second}
+use Rattle.routes.proofs.Bools.{first, second}
 use Rattle.routes.proofs.Listed.{all_of_like}
 use Rattle.routes.proofs.Moves.{move_free, via_here, via_there}
 
 not_both : (a b : Bool) → T (not (a && b)) → T (not a) ⊎ T (not b)
-not_both v0 b h = grind (arith, nat_tests)
+not_both a b h = grind (arith, nat_tests)
 
 -- along one axis: what a span moved out by h + g does not cross, moved out by h itself, lies apart from it by g
 apart_moved_along : (h g : ℕ) (s b : Span) → T (not (crosses (widened (h + g) s) b)) → T (apart_along g (widened h b) s)
@@ -48,7 +48,7 @@ apart_moved h g r b k =
     ]
 
 if_counts : (l n m w : Bool) → (T (not m) → T w) → T (not (l && (n && m))) → T (not (l && n) || w)
-if_counts v0 n m w f h = grind (arith, nat_tests)
+if_counts l n m w f h = grind (arith, nat_tests)
 
 free_clear : (net reach space : ℕ) (pieces : List Piece) (layer : ℕ) (area : Rect) → T (free net reach space pieces layer area)
     → T (all_of (clear_of layer net space (moved_out reach area)) pieces)
@@ -84,7 +84,7 @@ different_swap a b h = grind (arith, nat_tests)
 -- a clearance that is owed under less is kept under more
 owed : (l n d l' n' w w' : Bool) → (T l' → T l) → (T n' → T n) → (T w → T w') → T (not (l && n) || w)
     → T (not (l' && (n' && d)) || w')
-owed l n d v3 n' w w' f g h k = grind (arith, nat_tests)
+owed l n d l' n' w w' f g h k = grind (arith, nat_tests)
 
 pub clear_pieces_keep_clear : ClearPiecesKeepClear
 clear_pieces_keep_clear a o h =

@@ -101,10 +101,10 @@ module _ (c : Class) where
     AllFit ns = (n : Piece) → In n ns → Fits net pieces n
 
     one_fits : (a : Piece) → Fits net pieces a → AllFit (a ∷ [])
-    one_fits a f n v3 = grind (arith, nat_tests)
+    one_fits a f n i = grind (arith, nat_tests)
 
     two_fit : (a b : Piece) → Fits net pieces a → Fits net pieces b → AllFit (a ∷ b ∷ [])
-    two_fit a b f g n v5 = grind (arith, nat_tests)
+    two_fit a b f g n i = grind (arith, nat_tests)
 
     joint_run_fits : (p q : Point) → p.layer ≡ q.layer → AllFit (laid_run c net job p q) → AllFit (joint c net job p q)
     joint_run_fits p q e =

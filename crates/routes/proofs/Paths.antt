@@ -1,14 +1,13 @@
 -- Routes as paths, and straight runs, where pieces stand. Assumes nothing.
 use Rattle.std.proofs.lemmas.Bool.Decides.{nat_tests}
-use Rattle.std.proofs.Common.{◌≡◌, ℕ, Bool, not, T, eqb, List, [], ◌∷◌, sym, ap, subst, append-nil, arith, eqb→eq}
+use Rattle.std.proofs.Common.{◌≡◌, ℕ, Bool, T, List, [], ◌∷◌, sym, ap, subst, append-nil, arith}
 use Rattle.geometry.specs.declared.point.Point.{Point}
 use Rattle.costs.specs.Amounts.{Sums, Laws}
-use Rattle.routes.specs.Routes.{Move, after, every, Rules, lawful_move, lawful, goes, gap, Path}
+use Rattle.routes.specs.Routes.{Move, after, every, Rules, lawful_move, lawful, goes, Path}
 use Rattle.routes.specs.Routes.{unit_steps, in_steps}
 use Rattle.routes.specs.Rules.{rules_of}
-use Rattle.routes.specs.Lines.{neighbours, line_move}
+use Rattle.routes.specs.Lines.{line_move}
 use Rattle.routes.specs.Claims.{at_prices, RoutesArePaths, LineRoutesAreUnitRoutes, StraightRuns, WholeRunsAreLawful}
-use Rattle.routes.proofs.Bools.{refute}
 use Rattle.routes.proofs.Moves.{this_move, later_moves, more_moves}
 use Rattle.routes.proofs.Sums.{ordered, no_tariff, no_tariff_laws}
 use Rattle.routes.proofs.InSteps.{unit_steps_do, in_steps_steps, in_steps_lawful, in_steps_end, in_steps_cost, in_steps_turns}
@@ -16,7 +15,7 @@ use Rattle.routes.proofs.Whole.{whole_runs_lawful, whole_runs_visited}
 use Rattle.routes.proofs.Ground.{parts_free, joins_free}
 
 same_verdict : (a b : Bool) → (T a → T b) → (T b → T a) → a ≡ b
-same_verdict v0 v1 f g = grind (arith, nat_tests)
+same_verdict a b f g = grind (arith, nat_tests)
 
 pub routes_are_paths : {M : Type 0} (sums : Sums M) → Laws sums → RoutesArePaths sums
 routes_are_paths sums laws prices width height layers c net pieces s r starts ok =
@@ -36,7 +35,7 @@ routes_are_paths sums laws prices width height layers c net pieces s r starts ok
 
 -- a move between neighbouring nodes goes somewhere
 line_move_goes : (R : Rules) (X Y : List ℕ) (p : Point) (m : Move) → T (line_move X Y p m) → T (lawful_move R p m) → T (goes p m)
-line_move_goes R X Y p v4 h ok = grind (arith, nat_tests)
+line_move_goes R X Y p m h ok = grind (arith, nat_tests)
 
 line_moves_go : (R : Rules) (X Y : List ℕ) (p : Point) (r : List Move) → T (every (line_move X Y) p r) → T (lawful R p r)
     → T (every goes p r)

@@ -1,7 +1,7 @@
 -- A route whose x coordinates are lines can be cut where it passes over a line, at the same cost: then each move along x
 -- goes from a line to the next. Assumes nothing.
 use Rattle.std.proofs.lemmas.Bool.Decides.{nat_tests}
-use Rattle.std.proofs.Common.{◌≡◌, ℕ, zero, suc, ◌+◌, ◌<◌, ◌≤◌, min, max, Bool, true, ◌&&◌, T, List, [], ◌∷◌, sym, refl, ap, ◌∙◌, inl, inr, arith, eqb→eq, ltb→lt}
+use Rattle.std.proofs.Common.{◌≡◌, ℕ, zero, suc, ◌+◌, ◌<◌, ◌≤◌, min, max, Bool, true, ◌&&◌, T, List, [], ◌∷◌, sym, refl, ap, ◌∙◌, inl, inr, arith, eqb→eq, ltb, ltb→lt}
 use Rattle.std.proofs.lemmas.Bool.{cases_eq}
 use Rattle.geometry.specs.declared.point.Point.{Point}
 use Rattle.geometry.specs.Lists.{mem}
@@ -77,8 +77,8 @@ module _ {M : Type 0} (tf : Tariff M) {leq : M → M → Type 0} (laws : Ordered
     | inr ne ↦ elim (line_between qs p.x x) [
       | inl found ↦
           let q = found.0 in
-          let past : min p.x x < q = ltb→lt _ _ (left _ _ found.2) in
-          let before : q < max p.x x = ltb→lt _ _ (right _ _ found.2) in
+          let past : min p.x x < q = ltb→lt _ _ (left _ (ltb q (max p.x x)) found.2) in
+          let before : q < max p.x x = ltb→lt _ _ (right (ltb (min p.x x) q) _ found.2) in
           let within : x ≤ R.width = x_within R p x ok in
           two_moves p q x r (omega arith)
           (cut n p q (along_x x ∷ r) (omega arith) fits from found.1

@@ -1,6 +1,6 @@
 -- A run that is cut in two, or two that are joined: what the parts and the whole have of one another. Assumes nothing.
 use Rattle.std.proofs.lemmas.Bool.Decides.{nat_tests}
-use Rattle.std.proofs.Common.{◌≡◌, ℕ, ◌+◌, ◌-◌, ◌<◌, ◌≤◌, min, max, Bool, true, false, cond, not, ◌&&◌, T, eqb, ltb, ◌⊎◌, List, [], ◌∷◌, sym, refl, ap, ◌∙◌, subst, inl, inr, arith}
+use Rattle.std.proofs.Common.{◌≡◌, ℕ, ◌+◌, ◌<◌, ◌≤◌, min, max, true, false, cond, not, T, eqb, ltb, ◌⊎◌, List, [], ◌∷◌, sym, refl, ap, ◌∙◌, subst, inl, inr, arith}
 use Rattle.std.proofs.lemmas.Bool.{ne_eqb}
 use Rattle.geometry.specs.declared.axis.Axis.{Axis}
 use Rattle.geometry.specs.declared.axis.Axis.TheVariants.{X, Y}
@@ -49,10 +49,10 @@ abbrev way : ℕ → ℕ → ℕ → ℕ → ℕ
 way up down a b = cond (ltb a b) up down
 
 way_first : (up down a q b : ℕ) → Amid a q b → way up down a q ≡ way up down a b
-way_first up down a q b v5 = grind (arith, nat_tests)
+way_first up down a q b h = grind (arith, nat_tests)
 
 way_rest : (up down a q b : ℕ) → Amid a q b → way up down q b ≡ way up down a b
-way_rest up down a q b v5 = grind (arith, nat_tests)
+way_rest up down a q b h = grind (arith, nat_tests)
 
 way_run : (up down a b : ℕ) → T (ltb 0 up) → T (ltb 0 down) → T (ltb 0 (way up down a b))
 way_run up down a b h k = elim (ltb a b) as (λ t. T (ltb 0 (cond t up down))) [ true ↦ h | false ↦ k ]
@@ -61,7 +61,7 @@ apart_goes : (a b : ℕ) → (a ≡ b → ⊥) → T (not (eqb (gap a b) 0))
 apart_goes a b ne = subst (λ t. T (not t)) (sym (ne_eqb (gap a b) 0 (λ e. ne (omega arith)))) tt
 
 gap_amid : (a q b : ℕ) → Amid a q b → gap a b ≡ gap a q + gap q b
-gap_amid a q b v3 = grind (arith, nat_tests)
+gap_amid a q b h = grind (arith, nat_tests)
 
 module _ {M : Type 0} (R : Rules) (tf : Tariff M) {leq : M → M → Type 0} (laws : Ordered tf.sums leq) where
   times_gap : (a q b : ℕ) (u : M) → Amid a q b

@@ -27,7 +27,7 @@ no_heading_y a h = search rules
 
 -- the same heading of two runs along one axis, whose headings are u and d, is the same way
 same_way : (u d : ℕ) → (u ≡ d → ⊥) → (a b : Bool) → T (eqb (cond a u d) (cond b u d)) → a ≡ b
-same_way u d ne v3 v4 h = grind (arith, nat_tests)
+same_way u d ne a b h = grind (arith, nat_tests)
 
 -- the first of two runs the same way ends amid the whole
 amid : (a q b : ℕ) → ltb a q ≡ ltb q b → (a ≡ q → ⊥) → (q ≡ b → ⊥) → Amid a q b
