@@ -27,5 +27,5 @@ pub use piece::{Mark, Piece};
 pub use point::Point;
 pub use question::Question;
 pub use rect::{Rect, Span};
-pub use size::Size;
-pub use zone::{in_way, zone_axis, zone_meets};
+pub use size::{LAYERS, SIDE, Size};
+pub use zone::{in_way, zone_axis, zone_crosses, zone_meets};

@@ -33,6 +33,7 @@ impl Class {
         if !measures.suit_a_class() {
             return None;
         }
+        // in range by the test, so that a cast is plainer than a conversion that could fail
         Some(Class {
             half: measures.half as u16,
             space: measures.space as u16,

@@ -9,6 +9,7 @@ pub enum Mark {
 }
 
 /// What stands on one layer. Net 0 marks a keep-out.
+// Layers, nets and job numbers are the customer's numbers, which jobs read and print.
 #[derive(Clone, Copy, Debug, PartialEq, Eq, Hash)]
 pub struct Piece {
     pub layer: u8,

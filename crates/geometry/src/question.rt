@@ -10,5 +10,6 @@ pub struct Question {
     pub reach: u16,
     pub space: u16,
     pub area: Rect,
+    // a yes or no, with no value beside it
     pub laid: bool,
 }

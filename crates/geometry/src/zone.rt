@@ -8,6 +8,7 @@ use crate::question::Question;
 use crate::rect::{Rect, Span};
 
 /// The low and the high border of a span moved out by `out` on either side.
+// By a rule of the project one axis of a zone is a pair, which callers take apart.
 pub fn zone_axis(span: &Span, out: u32) -> (i64, i64)
     ensures low { result.0 ≡ (widened out span.now).low }
     ensures high { result.1 ≡ (widened out span.now).high }
@@ -16,7 +17,7 @@ pub fn zone_axis(span: &Span, out: u32) -> (i64, i64)
 }
 
 /// Whether a span moved out by `out`, without its borders, crosses a closed one.
-fn zone_crosses(span: &Span, out: u32, closed: &Span) -> bool
+pub fn zone_crosses(span: &Span, out: u32, closed: &Span) -> bool
     ensures { result ≡ crosses (widened out span.now) closed.now }
 {
     let (low, high) = zone_axis(span, out);
