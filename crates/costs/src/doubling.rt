@@ -11,6 +11,7 @@ pub fn times<C: Amount>(amount: C, k: u32) -> C
     let mut total = C::zero();
     let mut unit = amount;
     let mut rest = k;
+    // halves: no list to go over
     while rest > 0 {
         if rest % 2 == 1 {
             total = total.sum(unit);

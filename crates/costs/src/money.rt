@@ -1,4 +1,5 @@
-// The kind of cost that is a sum of money, by a price list.
+// The kind of cost that is a sum of money, by a price list. No twin of `vias`: each kind has its own sort of amount and its own
+// laws.
 ghost use Rattle.std.specs.Prelude.{◌≡◌, ℕ};
 ghost use Rattle.costs.specs.Money.{money, money_prices};
 ghost use Rattle.costs.specs.Lawful.{money_laws};

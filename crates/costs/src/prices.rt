@@ -38,6 +38,7 @@ pub enum RowRefusal {
 }
 
 /// Writes the three prices of one row, which the list lends.
+// By a rule of the project one row is lent to a function, so u, v and t stay parameters, here and in `set`.
 fn set_row(row: &mut Row, u: u16, v: u16, t: u32)
     ensures { row.new ≡ record { u = u; v = v; t = t } }
 {

@@ -1,4 +1,5 @@
-// The kind of cost that counts vias first, and then the money of the runs, by a price list.
+// The kind of cost that counts vias first, and then the money of the runs, by a price list. No twin of `money`: each kind has its
+// own sort of amount and its own laws.
 ghost use Rattle.std.specs.Prelude.{◌≡◌, ℕ};
 ghost use Rattle.costs.specs.Vias.{pairs, vias_prices};
 ghost use Rattle.costs.specs.Lawful.{pair_laws};
