@@ -13,8 +13,7 @@ use denote.Param.Members.{Once}
 use denote.Ref.{Bor}
 use Rattle.job.specs.declared.reader.WordReader.{WordReader}
 use Rattle.job.specs.declared.reader.Unreadable.{Unreadable}
-use Rattle.job.specs.declared.reader.Word.{Word}
-use Rattle.job.specs.declared.lines.Line.{Line}
+use Rattle.job.specs.declared.reader.Part.{Part}
 use Rattle.job.specs.declared.lines.LineReader.{LineReader}
 use Rattle.job.specs.Text.{lines, WordAt, word_at, words}
 use Rattle.job.specs.Numbers.{number}
@@ -23,7 +22,7 @@ abbrev pub lines_left : LineReader → List (List ℕ)
 lines_left r = lines (drop r.next r.job.now)
 
 -- The next line is handed out, and the one behind it begins behind its newline; none is handed out where none is left.
-pub record NextLine (r : LineReader) (line : Option Line) (r' : LineReader) : Type 0 where
+pub record NextLine (r : LineReader) (line : Option Part) (r' : LineReader) : Type 0 where
   pub lines_is : MatchOption line (lines_left r ≡ []) (λ l. lines_left r ≡ l.text.now ∷ lines_left r')
   pub place_is : MatchOption line (r'.next ≡ r.next) (λ l. (l.place ≡ r.next) × (r'.next ≡ min (l.place + length l.text.now + 1) (length r.job.now)))
   pub further : OnSome line ((r.next < r'.next) × (r'.next ≤ length r.job.now))
@@ -38,7 +37,7 @@ abbrev pub left : WordReader → List WordAt
 left w = words_from w.line.now w.next
 
 -- The next word is handed out, with its place; none is where none is left.
-pub record NextWord (w : WordReader) (word : Option Word) (w' : WordReader) : Type 0 where
+pub record NextWord (w : WordReader) (word : Option Part) (w' : WordReader) : Type 0 where
   pub words_is : MatchOption word ((left w ≡ []) × (left w' ≡ [])) (λ found. left w ≡ word_at found.place found.text.now ∷ left w')
   pub line_is : w'.line.now ≡ w.line.now
 

@@ -19,9 +19,9 @@ mod words;
 
 pub use cases::worked_jobs_hold;
 pub use forms::{ClassLine, CostChoice, LayerLine, PanelLine, RegisterChoice, Verb};
-pub use lines::{Line, LineReader};
+pub use lines::LineReader;
 pub use number::parse_number;
-pub use reader::{Unreadable, Word, WordReader};
+pub use reader::{Part, Unreadable, WordReader};
 pub use refused::Refused;
 pub use run::run_job;
 pub use said::Said;

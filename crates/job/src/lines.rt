@@ -3,16 +3,11 @@ ghost use Rattle.std.specs.Prelude.{◌≡◌, ◌-◌, length};
 ghost use Rattle.std.specs.Iterator.{at_most};
 ghost use Rattle.job.specs.Reading.{NextLine};
 
+use crate::reader::Part;
 use crate::scan::find;
 
-/// A line of a job, without its newline, and its place in the job.
-#[derive(Clone, Copy, Debug, PartialEq, Eq)]
-pub struct Line<'a> {
-    pub place: usize,
-    pub text: &'a [u8],
-}
-
-/// Reads a job line by line, from the place `next` on. What it hands out are parts of the job itself.
+/// Reads a job line by line, from the place `next` on. What it hands out are parts of the job itself, each without its newline.
+// A job is any bytes, and by a rule of the project a struct over them, with its place, hands out parts of them.
 #[derive(Debug, PartialEq, Eq, Drop)]
 pub struct LineReader<'a> {
     job: &'a [u8],
@@ -30,14 +25,14 @@ impl<'a> LineReader<'a> {
 }
 
 impl<'a> Iterator for LineReader<'a> {
-    type Item = Line<'a>;
+    type Item = Part<'a>;
 
     ghost next_gives = { NextLine };
 
     ghost remaining = { λ r. at_most (length r.job.now - r.next) };
 
     /// The next line, or none if none is left.
-    fn next(&mut self) -> Option<Line<'a>> {
+    fn next(&mut self) -> Option<Part<'a>> {
         let place = self.next;
         if place >= self.job.len() {
             return None;
@@ -46,6 +41,6 @@ impl<'a> Iterator for LineReader<'a> {
         let end = find(rest, b'\n');
         let text = &rest[..end];
         self.next = self.job.len().min(place + end + 1);
-        Some(Line { place, text })
+        Some(Part { place, text })
     }
 }

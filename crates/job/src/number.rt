@@ -19,6 +19,7 @@ fn parse_digits(word: &[u8]) -> Option<u32>
     requires { length word.now ≤ 7 }
     ensures { result ≡ (if all_of digit word.now then Some (decimal 0 word.now) else None) }
 {
+    // no chain: its steps would each have to test for a sum too large, which the length rules out
     let mut value = 0;
     for b in word {
         if !b.is_ascii_digit() {

@@ -4,9 +4,9 @@ ghost use Rattle.std.specs.Prelude.{◌≤◌, length, IfSome};
 /// The most bytes that a line may have, without its newline.
 pub const LINE_BYTES: usize = 80;
 
-/// A word of a line, and its place, which is how many bytes of the line stand before it.
+/// A part of a text, and its place, which is how many bytes of the text stand before it: a line of a job, or a word of a line.
 #[derive(Clone, Copy, Debug, PartialEq, Eq)]
-pub struct Word<'a> {
+pub struct Part<'a> {
     pub place: usize,
     pub text: &'a [u8],
 }

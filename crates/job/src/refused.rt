@@ -18,6 +18,7 @@ pub enum Refused {
 
 impl Refused {
     /// What is shown of a refusal.
+    // a method and no `From`: no plainer, since a refusal is shown where it is borrowed
     pub fn shown(&self) -> Shown
         ensures { result ≡ shown self.now }
     {

@@ -32,7 +32,8 @@ const NO_PIECE: Piece = Piece {
     mark: Mark::Placed,
 };
 
-// Opens a panel over a register, makes the calls, and gives back their answers.
+// Opens a panel over a register, makes the calls, and gives back their answers. The arms choose types, over which the driver is
+// generic, so that a closure or a dyn value would be no plainer.
 fn call_over<R: Register + Drop>(
     heap: Global,
     setup: Setup,

@@ -52,7 +52,7 @@ impl Setup {
         Ok(None)
     }
 
-    // What a line of this kind comes to at the stage of the job.
+    // What a line of this kind comes to at the stage of the job: by a rule of the project one match on both together.
     fn take_line(&mut self, verb: Verb, words: &mut WordReader<'_>) -> Result<Option<Call>, Refused>
         ensures { Taken (by_verb self.old.stage (Some verb)) verb words.old result self.old self.new }
     {

@@ -7,18 +7,18 @@ ghost use Rattle.job.specs.Numbers.{number};
 ghost use Rattle.job.specs.Reading.{NextWord, Computes, left, of_words, read_by, read_numbers, read_end};
 
 use crate::number::parse_number;
-use crate::reader::{Unreadable, Word, WordReader};
+use crate::reader::{Part, Unreadable, WordReader};
 use crate::scan::find;
 
 impl<'a> Iterator for WordReader<'a> {
-    type Item = Word<'a>;
+    type Item = Part<'a>;
 
     ghost next_gives = { NextWord };
 
     ghost remaining = { item_count left };
 
     /// The next word, or none if none is left.
-    fn next(&mut self) -> Option<Word<'a>> {
+    fn next(&mut self) -> Option<Part<'a>> {
         let place = self.next?;
         let rest = &self.line[place..];
         let end = find(rest, b' ');
@@ -28,7 +28,7 @@ impl<'a> Iterator for WordReader<'a> {
             None
         };
         let text = &rest[..end];
-        Some(Word { place, text })
+        Some(Part { place, text })
     }
 }
 
