@@ -4,7 +4,7 @@
 --     ground_rules g ps        what a ground allows where these pieces stand
 --     next_along a p           the step along an axis from a point to the next
 --     free_on_both R l area    a box is free for vias on a layer and on the next
-use Rattle.std.specs.Prelude.{◌≡◌, ℕ, ◌+◌, Bool, ◌&&◌, List, nat_le}
+use Rattle.std.specs.Prelude.{◌≡◌, ℕ, ◌+◌, Bool, ◌&&◌, List}
 use Rattle.geometry.specs.declared.axis.Axis.{Axis}
 use Rattle.geometry.specs.declared.axis.Axis.TheVariants.{X, Y}
 use Rattle.geometry.specs.declared.point.Point.{Point}
@@ -12,12 +12,13 @@ use Rattle.geometry.specs.declared.size.Size.{Size}
 use Rattle.geometry.specs.declared.rect.Rect.{Rect}
 use Rattle.geometry.specs.declared.class.Class.{Class}
 use Rattle.geometry.specs.declared.piece.Piece.{Piece}
+use Rattle.geometry.specs.Sizes.{within}
 use Rattle.routes.specs.Routes.{Move, along_x, along_y, Rules}
 use Rattle.routes.specs.Rules.{rules_of}
 use Rattle.flood.specs.declared.ground.Ground.{Ground}
 
 abbrev pub small : Size → Bool
-small s = nat_le s.width 1000 && (nat_le s.height 1000 && nat_le s.layers 8)
+small = within 1000 8
 
 pub record Asked (s : Size) (c : Class) (net : ℕ) (g : Ground) : Type 0 where
   pub size_is : g.size ≡ s

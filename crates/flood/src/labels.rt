@@ -30,7 +30,7 @@ fn better_both<C: Amount>(nodes: &mut [Node<C>], i: usize, j: usize, price: C) -
 
 /// How labels are bettered: by a kind of cost, and by how far apart the places of neighbouring points are, along y and from
 /// layer to layer.
-#[derive(Clone, Copy)]
+#[derive(Clone, Copy, Debug, PartialEq, Eq)]
 pub(crate) struct Spread<K> {
     pub kind: K,
     pub row: usize,

@@ -30,6 +30,7 @@ impl From<AllocError> for FloodError {
 
 impl<K: CostKind> Spread<K> {
     /// Sweeps once over places in an order, and answers whether a label improved.
+    // The order is handed in, upward or downward: that it can go on, ends and gives places only are its premises.
     fn sweep<I: Iterator<Item = usize>>(&self, nodes: &mut [Node<K::Amount>], order: I) -> bool
         requires can { I.can_next order }
         requires ends { IsFinite (I.remaining order) }

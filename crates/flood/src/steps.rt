@@ -17,6 +17,7 @@ fn nothing_in_way(q: &Question, pieces: &[Piece]) -> bool
 
 impl Ground {
     /// Whether a closed box of a layer is free at a reach.
+    // Asks by itself: the flood is what the search is compared with.
     fn is_free(&self, pieces: &[Piece], reach: u16, layer: u8, area: &Rect) -> bool
         ensures { result ≡ free self.now.net reach self.now.class.space pieces.now layer area.now }
     {

@@ -24,6 +24,7 @@ impl Ground {
         ensures answer { result ≡ place_known self.now p.now }
         ensures inside { IfSome result (λ i. i < ground_size self.now) }
     {
+        // tried with `then`: no plainer, and its closure asks again for what the test shows, that each number fits
         if self.size.has(p) {
             Some(((p.layer - 1) * (self.size.height + 1) + p.y) * (self.size.width + 1) + p.x)
         } else {
@@ -32,6 +33,7 @@ impl Ground {
     }
 
     /// The point at a place.
+    // A place is a plain number from the range of all places: that it is below their number is a premise, here and in `steps_at`.
     fn point(&self, i: u32) -> Point
         requires { i < ground_size self.now }
         ensures { result ≡ point_at self.now i }
@@ -72,7 +74,7 @@ impl Ground {
         (0..self.points())
             .map(|i| Node {
                 steps: self.steps_at(pieces, i),
-                label: if i == from { Some(C::zero()) } else { None },
+                label: (i == from).then_some(C::zero()),
             })
             .collect(heap)
     }

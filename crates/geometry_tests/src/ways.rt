@@ -8,6 +8,7 @@ const HERE: Rect = Rect {
 };
 
 /// A piece at `HERE` of space `space`, and a question for net 7 on layer 1 at space 3 about the point `x`, 30.
+#[derive(Debug, PartialEq, Eq)]
 struct Way {
     layer: u8,
     net: u8,
@@ -197,6 +198,7 @@ fn ways(rt: HostRuntime) {
 }
 
 /// A piece of net 7 and space 3, and one of space 0 at a gap beside it.
+#[derive(Debug, PartialEq, Eq)]
 struct Gap {
     gap: i32,
     mark: Mark,

@@ -1,6 +1,7 @@
 // Where zones end, and what they meet.
 use geometry::{Rect, Span, apart, zone_axis, zone_meets};
 
+#[derive(Debug, PartialEq, Eq)]
 struct AxisZone {
     span: Span,
     out: u32,
@@ -86,6 +87,7 @@ fn axes(rt: HostRuntime) {
 }
 
 /// A rectangle and a box, by x1, y1, x2, y2, and whether the rectangle moved out meets the box.
+#[derive(Debug, PartialEq, Eq)]
 struct Met {
     rect: [i32; 4],
     out: u32,
