@@ -45,7 +45,7 @@ impl<'a> WordReader<'a> {
     }
 
     /// The next word, as what `parse` makes of its bytes.
-    pub(crate) fn read<T, F: FnOnce(&[u8]) -> Option<T>>(
+    pub fn read<T, F: FnOnce(&[u8]) -> Option<T>>(
         &mut self,
         parse: F,
     ) -> Result<T, Unreadable>
