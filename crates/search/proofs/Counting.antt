@@ -1,7 +1,7 @@
 -- How many numbers are in a list without repeats. Assumes nothing.
 use Rattle.std.proofs.Common.{◌≡◌, ℕ, zero, suc, ◌<◌, ◌≤◌, Bool, true, false, cond, not, ◌||◌, T, eqb, List, [], ◌∷◌, length, get_or, take, Some, None, Option, sym, refl, ap, ◌∙◌, subst, inl, inr, arith, eqb→eq, length-take, eqb-true, lt-ltb, ne_eqb}
 use lib.Dec.{eqb_refl}
-use Rattle.std.specs.Option.{IfSome, ok_or}
+use Rattle.std.specs.Option.{unwrap_or, ok_or}
 use Rattle.std.specs.List.{ContainsAt as Has, AllByRecursion, IsDistinct, position, position_or_len}
 use Rattle.std.specs.Cmp.{nat_eq_equiv}
 use Rattle.std.specs.Set.{unique_keys, distinct_count, is_member}
@@ -134,10 +134,10 @@ module _ (xs ws old out : List ℕ) (put : IsPermutation xs ws) (long : 1024 ≤
   most : allowed 1024 old ≡ 1024
   most = omega arith
 
-  pub told_drawn : (r : Option ℕ) → IfSome r (λ n. n ≤ allowed 1024 old) → Drained (allowed 1024 old) ws out r
+  pub told_drawn : (r : Option ℕ) → unwrap_or r (allowed 1024 old) ≤ allowed 1024 old → Drained (allowed 1024 old) ws out r
       → ToldDrawn (distinct xs) out (ok_or r TooManyLines)
   told_drawn r few d = pick r few (drained_shuffled 1024 xs ws out r put (subst (λ v. Drained v ws out r) most d))
     where
-      pick : (r : Option ℕ) → IfSome r (λ n. n ≤ allowed 1024 old) → Drained 1024 xs out r → ToldDrawn (distinct xs) out (ok_or r TooManyLines)
+      pick : (r : Option ℕ) → unwrap_or r (allowed 1024 old) ≤ allowed 1024 old → Drained 1024 xs out r → ToldDrawn (distinct xs) out (ok_or r TooManyLines)
       pick (Some n) few c = told_lines xs out n c (omega (arith, most, few)) (omega (arith, most, few))
       pick None few m = too_many xs m

@@ -19,5 +19,5 @@ returns-clause-lines g c =
     let d = c.drain_distinct.ensures in
     let long : 1024 ≤ length c.args.lines.now = lines_long _ _ _ c.if-are_short.ensures in
     subst (ToldDrawn (extent_lines e ps) out) (sym c.ok_or.ensures.value)
-    (told_drawn xs ws c.args.lines.now out put long (omega (arith, long)) c.drain_distinct.result d.count
+    (told_drawn xs ws c.args.lines.now out put long (omega (arith, long)) c.drain_distinct.result d.front.count
     (d.distinct (c.put_coordinates.ensures.order c.new-queue.ensures.order)))
