@@ -1,7 +1,7 @@
 -- What each call answers: its checks in their order, and what an accepted one hands back. Assumes nothing.
 use Rattle.std.specs.Prelude.{◌≡◌, ℕ, ◌+◌, ◌-◌, Bool, true, not, ◌&&◌, T, List, [], ◌∷◌, length, Ok, Err, Result, ◌==◌, nat_le, nat_lt}
 use Rattle.geometry.specs.Lists.{any_of}
-use Rattle.geometry.specs.Ranges.{ranges}
+use Rattle.geometry.specs.Sizes.{has_layer, covers}
 use Rattle.geometry.specs.Zones.{none_in_way, in_way_by}
 use Rattle.geometry.specs.declared.question.Question.{Question}
 use Rattle.registers.specs.Standing.{of_job, count_of_job}
@@ -17,16 +17,10 @@ use Rattle.panel.specs.Checks.{Check, check, check_with, NoCause, RefusedBy}
 abbrev pub room_for : Placement → Question
 room_for a = record { layer = a.layer; net = a.net; reach = 0; space = a.space; area = rect_of a; laid = true }
 
--- what a placement's first checks ask of it
-abbrev pub has_layer : Sheet → ℕ → Bool
-has_layer s layer = ranges 1 s.size.layers layer
-
-abbrev pub on_panel : Sheet → ℕ → ℕ → Bool
-on_panel s x y = nat_le x s.size.width && nat_le y s.size.height
-
+-- on the panel, with a width and a height, and no larger a space than a piece may have
 abbrev pub well_placed : Sheet → Placement → Bool
 well_placed s a =
-    on_panel s a.x1 a.y1 && on_panel s a.x2 a.y2 && nat_lt a.x1 a.x2 && nat_lt a.y1 a.y2 && nat_le a.space 1000
+    covers s.size a.x1 a.y1 && covers s.size a.x2 a.y2 && nat_lt a.x1 a.x2 && nat_lt a.y1 a.y2 && nat_le a.space 1000
 
 -- A piece in the way is named by its job number; which, if there are several, is free.
 abbrev pub in_way_check : Standing → Placement → Check
@@ -38,7 +32,7 @@ in_way_check st a = record {
 
 abbrev pub place_checks : Sheet → ℕ → Standing → Placement → List Check
 place_checks s places st a =
-    check 2 (T (not (has_layer s a.layer)))
+    check 2 (T (not (has_layer s.size a.layer)))
     ∷ check 4 (T (nat_lt 255 a.net))
     ∷ check 5 (T (not (well_placed s a)))
     ∷ in_way_check st a

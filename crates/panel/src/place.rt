@@ -1,7 +1,7 @@
 // Placing a piece by itself, and taking out a job.
 ghost use Rattle.std.specs.Prelude.{◌≡◌, T};
 ghost use Rattle.geometry.specs.Clearance.{in_order};
-ghost use Rattle.panel.specs.Calls.{PlaceAnswer, LiftAnswer, has_layer, on_panel, well_placed, room_for};
+ghost use Rattle.panel.specs.Calls.{PlaceAnswer, LiftAnswer, well_placed, room_for};
 ghost use Rattle.panel.specs.Standing.{FitsPanel, rect_of, placed, after_place, after_lift};
 ghost use Rattle.panel.specs.Panels.{leaving};
 
@@ -14,26 +14,12 @@ use geometry::{Mark, Piece, Rect, Span, room_of};
 use registers::{Pieces, Register};
 
 impl Sheet {
-    // Whether the panel has a layer of this number.
-    fn has_layer(&self, layer: u32) -> bool
-        ensures { result ≡ has_layer self.now layer }
-    {
-        (1..=self.size.layers).contains(&layer)
-    }
-
-    // Whether a point is on the panel.
-    fn on_panel(&self, x: u32, y: u32) -> bool
-        ensures { result ≡ on_panel self.now x y }
-    {
-        x <= self.size.width && y <= self.size.height
-    }
-
     // Whether a placement is on the panel, has a width and a height, and no larger a space than a piece may have.
     fn well_placed(&self, a: &Placement) -> bool
         ensures { result ≡ well_placed self.now a.now }
     {
-        self.on_panel(a.x1, a.y1)
-            && self.on_panel(a.x2, a.y2)
+        self.size.covers(a.x1, a.y1)
+            && self.size.covers(a.x2, a.y2)
             && a.x1 < a.x2
             && a.y1 < a.y2
             && a.space <= 1000
@@ -41,6 +27,7 @@ impl Sheet {
 }
 
 // The piece that a placement asks for, which has no job number yet.
+// Its numbers are in range by `FitsPanel`, so a cast is plainer than a conversion that could fail.
 fn piece_of(a: &Placement) -> Piece
     requires { FitsPanel a.now }
     ensures { result ≡ placed a.now 0 }
@@ -71,7 +58,7 @@ impl<K: CostKind, R: Register> Panel<K, R> {
         ensures stands { self.new ≡ leaving (after_place self.old.standing a.now result) self.old }
         ensures clearance { T (in_order self.new.standing.pieces) }
     {
-        if !self.sheet.has_layer(a.layer) {
+        if !self.sheet.size.has_layer(a.layer) {
             return Err(Refusal::LayerRange);
         }
         if 255 < a.net {
@@ -82,7 +69,7 @@ impl<K: CostKind, R: Register> Panel<K, R> {
         }
         let piece = piece_of(a);
         if let Some(job) = self.register.in_the_way(&room_of(&piece)) {
-            return Err(Refusal::InTheWay(job as u32));
+            return Err(Refusal::InTheWay(job.into()));
         }
         if self.register.free() < 1 {
             return Err(Refusal::TooFewPlaces(1));

@@ -51,6 +51,7 @@ pub enum Level {
 /// What is shown of a refusal: its number, its level and the number returned.
 #[derive(Clone, Copy, Debug, PartialEq, Eq)]
 pub struct Shown {
+    // the customer's numbers, 1 to 16, which are printed
     pub number: u32,
     pub level: Level,
     pub returned: u64,
@@ -69,7 +70,7 @@ impl Shown {
     }
 }
 
-// `shown` is a method and no `From`: a refusal is shown where it is borrowed, and the contract says what is shown.
+// `shown` is a method, no plainer as a `From`: a refusal is shown where it is borrowed.
 impl Refusal {
     /// What is shown of the refusal of a call.
     pub fn shown(&self) -> Shown

@@ -5,15 +5,15 @@ ghost use Rattle.panel.specs.Sheets.{Blank, size_answer, class_answer, Resized, 
 
 use crate::refusal::SheetRefusal;
 use crate::sheet::Sheet;
-use geometry::{Class, Measures, Size};
+use geometry::{Class, LAYERS, Measures, SIDE, Size};
 
 // Whether a panel may have this size.
 fn may_have_size(size: &Size) -> bool
     ensures { result ≡ panel_size size.now }
 {
-    (1..=60_000).contains(&size.width)
-        && (1..=60_000).contains(&size.height)
-        && (1..=8).contains(&size.layers)
+    (1..=SIDE).contains(&size.width)
+        && (1..=SIDE).contains(&size.height)
+        && (1..=LAYERS).contains(&size.layers)
 }
 
 impl Sheet {
