@@ -5,13 +5,17 @@
 --     Holds, Looking       what holds between two turns, and while the neighbours of a node are looked at
 --     LookedAt, LookedRound what a look at one neighbour, and at all, comes to
 --     Stays                the same nodes are settled as before
+--     SameWork             the same graph, and the notes in their place
 --     Traced, Reached      a node was reached, and the notes lead back from it to the start
 use Rattle.std.specs.Prelude.{◌≡◌, ℕ, ◌+◌, ◌-◌, ◌*◌, ◌<◌, ◌≤◌, Bool, true, false, not, List, length, Some, Option, slice_index_or}
 use Rattle.std.specs.List.{ContainsAt as Has}
+use Rattle.costs.specs.declared.amount.Amount.{Ghosts as Amounts}
 use Rattle.costs.specs.Amounts.{Sums}
 use Rattle.frontier.specs.declared.entry.Entry.{Entry}
 use Rattle.frontier.specs.declared.note.Note.{Note}
 use Rattle.frontier.specs.declared.note.Note.TheVariants.{Unseen, Waiting, Settled}
+use Rattle.frontier.specs.declared.graph.Graph.{Ghosts as Graphs}
+use Rattle.frontier.specs.declared.search.Search.{Search as Work}
 use Rattle.frontier.specs.Graphs.{Shape}
 use Rattle.frontier.specs.Routes.{Search, search_from, LeastCost}
 use Rattle.frontier.specs.Ways.{Leads}
@@ -87,3 +91,8 @@ pub record Traced {C M : Type 0} (g : Search M) (means : C → M) (notes : List 
 pub record Reached {C M : Type 0} (g : Search M) (means : C → M) (notes : List (Note C)) (t : ℕ) (a : M) : Type 0 where
   pub least : LeastCost g t a
   pub traced : Traced g means notes t a
+
+-- the work is on the graph that it was on, and the notes lie where they lay
+pub record SameWork {C G : Type 0} {a : Amounts C} {g : Graphs G C} (w w' : Work C G a g) : Type 0 where
+  pub graph : w'.graph ≡ w.graph
+  pub notes : w'.notes.ghost_name ≡ w.notes.ghost_name

@@ -24,6 +24,7 @@ fn is_unfit(size: u32, from: u32, to: u32, notes: usize, entries: usize) -> bool
 /// The least cost of a route from one node to another, if there is a route. It is refused, with nothing written, exactly if
 /// a terminal is no node, or there are fewer notes than nodes, or fewer places for entries than six for
 /// each node and one. Where the target is reached, the notes lead back from it.
+// The terminals are two nodes, as every caller has them: a struct would be made only to be taken apart.
 pub fn find_least<C: Amount, G: Graph<C>>(
     graph: &G,
     from: u32,

@@ -2,7 +2,7 @@
 ghost use Rattle.std.specs.Prelude.{◌≡◌, ◌+◌, ◌*◌, ◌<◌, ◌≤◌};
 ghost use Rattle.queue.specs.Waiting.{waiting, size, Keeps};
 ghost use Rattle.frontier.specs.Entries.{cheaper};
-ghost use Rattle.frontier.specs.Held.{mark, worth, LookedAt, LookedRound, Stays};
+ghost use Rattle.frontier.specs.Held.{mark, worth, LookedAt, LookedRound, Stays, SameWork};
 
 use crate::entry::Entry;
 use crate::graph::Graph;
@@ -24,6 +24,7 @@ fn better<C: Amount>(note: Note<C>, sum: C) -> bool
 impl<C: Amount, G: Graph<C>> Search<'_, '_, '_, '_, C, G> {
     /// Looks at the k-th neighbour of a settled node: where the move to it gives a better amount and may
     /// be made, notes that and puts in an entry.
+    // `node` is one bound, of one number: no name for it would say more.
     fn look_at(&mut self, node: u32, amount: C, k: u32)
         requires node { node < (G.shape self.old.graph.now).size }
         requires way { k < 6 }
@@ -34,8 +35,7 @@ impl<C: Amount, G: Graph<C>> Search<'_, '_, '_, '_, C, G> {
         ensures stays { Stays (G.shape self.old.graph.now).size C.means
             self.old.notes.now self.new.notes.now (waiting self.old.queue.now) (waiting self.new.queue.now) 1 }
         ensures order { Keeps (cheaper C.means C.sums) self.old.queue.now self.new.queue.now }
-        ensures graph { self.new.graph ≡ self.old.graph }
-        ensures notes { self.new.notes.ghost_name ≡ self.old.notes.ghost_name }
+        ensures same { SameWork self.old self.new }
     {
         let Some(step) = self.graph.toward(node, k) else {
             return;
@@ -67,8 +67,7 @@ impl<C: Amount, G: Graph<C>> Search<'_, '_, '_, '_, C, G> {
         ensures stays { Stays (G.shape self.old.graph.now).size C.means
             self.old.notes.now self.new.notes.now (waiting self.old.queue.now) (waiting self.new.queue.now) 6 }
         ensures order { Keeps (cheaper C.means C.sums) self.old.queue.now self.new.queue.now }
-        ensures graph { self.new.graph ≡ self.old.graph }
-        ensures notes { self.new.notes.ghost_name ≡ self.old.notes.ghost_name }
+        ensures same { SameWork self.old self.new }
     {
         for k in 0..6 {
             self.look_at(node, amount, k);

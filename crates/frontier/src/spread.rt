@@ -3,7 +3,7 @@ ghost use Rattle.std.specs.Prelude.{◌≡◌, ℕ, ◌+◌, ◌*◌, ◌<◌, �
 ghost use Rattle.queue.specs.Waiting.{waiting, Ordered};
 ghost use Rattle.frontier.specs.declared.note.Note.TheVariants.{Unseen};
 ghost use Rattle.frontier.specs.Entries.{cheaper};
-ghost use Rattle.frontier.specs.Held.{Reached};
+ghost use Rattle.frontier.specs.Held.{Reached, SameWork};
 ghost use Rattle.frontier.specs.Routes.{HasNoRoute, search_from};
 
 use crate::entry::Entry;
@@ -25,7 +25,7 @@ impl<C: Amount, G: Graph<C>> Search<'_, '_, '_, '_, C, G> {
             (HasNoRoute (search_from C.sums (G.shape self.old.graph.now) (G.price C.sums C.means self.old.graph.now) from) to)
             (λ a. Reached (search_from C.sums (G.shape self.old.graph.now) (G.price C.sums C.means self.old.graph.now) from)
             C.means self.new.notes.now to (C.means a)) }
-        ensures notes { self.new.notes.ghost_name ≡ self.old.notes.ghost_name }
+        ensures same { SameWork self.old self.new }
     {
         let none = C::zero();
         self.notes[from as usize] = Note::Waiting(none, from);

@@ -1,9 +1,9 @@
 -- The neighbours before this one were looked at.
-use Rattle.std.proofs.Common.{◌≡◌, ℕ}
+use Rattle.std.proofs.Common.{ℕ}
 use Rattle.queue.specs.Waiting.{waiting, Keeps}
 use Rattle.frontier.specs.Entries.{cheaper}
 use Rattle.frontier.specs.Routes.{search_from}
-use Rattle.frontier.specs.Held.{Looking, Stays}
+use Rattle.frontier.specs.Held.{Looking, Stays, SameWork}
 use Rattle.frontier.proofs.search.Search.look_round.Given as goal
 
 abbrev pub invariant-loop-k : goal.invariant-loop-k
@@ -11,8 +11,7 @@ invariant-loop-k g l =
     let m = g.C.Amount in
     let shape = g.G.Graph.shape l.initial.self.graph.now in
     let price = g.G.Graph.price m.sums m.means l.initial.self.graph.now in
-    (l.self.graph ≡ l.initial.self.graph)
-    × (l.self.notes.ghost_name ≡ l.initial.self.notes.ghost_name)
+    SameWork l.initial.self l.self
     × ((from : ℕ) → Looking (search_from m.sums shape price from) m.means l.node (m.means l.amount)
     l.initial.self.notes.now (waiting l.initial.self.queue.now) 0
     → Looking (search_from m.sums shape price from) m.means l.node (m.means l.amount) l.self.notes.now

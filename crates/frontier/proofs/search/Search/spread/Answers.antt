@@ -28,8 +28,7 @@ loop-entry-init g c =
     let entries = waiting c.put.new.self in
     let put = subst (λ xs. IsPermutation (first ∷ xs) entries) c.requires.empty (MatchResult-at_ok _ _ _ c.unwrap.ensures e.waits) in
     let one : length (waiting c.put.new.self) ≡ 1 = omega (arith, MatchResult-at_ok _ _ _ c.unwrap.ensures e.len, empty) in (
-      refl,
-      refl,
+      record { graph = refl; notes = refl },
       begin_held S m.laws m.means c.args.self.now.notes.now c.zero-none.result entries c.requires.blank c.args.self.now.long
           c.requires.start c.zero-none.ensures put one,
       begin_open S m.laws m.means c.args.self.now.notes.now c.zero-none.result entries c.requires.blank c.args.self.now.long
@@ -41,8 +40,8 @@ pub returns-in_default-clause-answer : goal.returns-in_default-clause-answer
 returns-in_default-clause-answer g c =
     let m = g.C.Amount in
     let i = c.loop-entry.invariant in
-    none_held _ m.laws m.means c.loop-entry.self.notes.now (waiting c.loop-entry.self.queue.now) i.2 c.in_default.ensures.len
-    c.args.to i.3
+    none_held _ m.laws m.means c.loop-entry.self.notes.now (waiting c.loop-entry.self.queue.now) i.1 c.in_default.ensures.len
+    c.args.to i.2
 
 -- what the queue says of the entry
 taken : (g : given.Over) (c : In-Some g)
@@ -53,15 +52,15 @@ taken : (g : given.Over) (c : In-Some g)
 taken g c =
     let i = c.loop-entry.invariant in
     let t = c.in-Some.ensures in
-    record { holds = i.2; took = IsPermutation-sym _ _ t.waits; less = t.len; low = t.least i.4 }
+    record { holds = i.1; took = IsPermutation-sym _ _ t.waits; less = t.len; low = t.least i.3 }
 
 fits : (g : given.Over) (c : In-Some g) → c.in-Some.entry.node < length c.loop-entry.self.notes.now
-fits g c = omega (arith, turn_node g.C.Amount.laws (taken g c), c.loop-entry.invariant.2.long)
+fits g c = omega (arith, turn_node g.C.Amount.laws (taken g c), c.loop-entry.invariant.1.long)
 
 -- so does its place among the notes as they were lent
 first_fits : (g : given.Over) (c : In-Some g) → c.in-Some.entry.node < length c.args.self.now.notes.now
 first_fits g c =
-    let same = ap (λ r. (g.G.Graph.shape r.now).size) c.loop-entry.invariant.0 in
+    let same = ap (λ r. (g.G.Graph.shape r.now).size) c.loop-entry.invariant.0.graph in
     omega (arith, same, fits g c, c.loop-entry.self.long, c.args.self.now.long)
 
 -- the node of the entry waits
@@ -98,7 +97,7 @@ returns-then-entry-to-clause-answer g c =
 pub look_round-requires : goal.look_round-requires
 look_round-requires g c =
     let s = goal.at.look_round-requires g c in
-    let same = ap (λ r. (g.G.Graph.shape r.now).size) c.loop-entry.invariant.0 in
+    let same = ap (λ r. (g.G.Graph.shape r.now).size) c.loop-entry.invariant.0.graph in
     let laws = g.C.Amount.laws in
     let K = taken g s.In-Some in
     let L = turn_looking laws K (waited g s.In-Waiting (fits g s.In-Some)) in
@@ -119,7 +118,7 @@ round : (g : given.Over) (c : After-look_round g) →
 round g c =
     let m = g.C.Amount in
     let e = c.look_round.ensures in
-    let same = c.loop-entry.invariant.0 in
+    let same = c.loop-entry.invariant.0.graph in
     let notes = set c.loop-entry.self.notes.now c.in-Some.entry.node (Settled c.in-Some.entry.amount c.in-Waiting.before) in
     let is = c.look_round.new.self in (
       subst (λ r. LookedRound m.sums m.means (g.G.Graph.shape r.now) (g.G.Graph.price m.sums m.means r.now) c.in-Some.entry.node
@@ -143,11 +142,10 @@ loop-entry-preserved-in-Waiting g c =
     let e = c.look_round.ensures in
     let r = round g s.After-look_round in
     let t = c.in-Some.ensures in (
-      e.graph ∙ i.0,
-      e.notes ∙ i.1,
+      record { graph = e.same.graph ∙ i.0.graph; notes = e.same.notes ∙ i.0.notes },
       r.0 c.args.from (turn_looking laws K was),
-      turn_open laws K was r.1 c.args.to c.if-entry-to.false i.3,
-      e.order (t.order i.4),
+      turn_open laws K was r.1 c.args.to c.if-entry-to.false i.2,
+      e.order (t.order i.3),
     )
 
 pub loop-entry-preserved : goal.loop-entry-preserved
@@ -159,9 +157,8 @@ loop-entry-preserved g c =
     let t = c.in-Some.ensures in
     let old = not_waiting m.means c.loop-entry.self.notes.now c.in-Some.entry.node note.result (fits g s.In-Some)
     c.in_default-note.not-Waiting in (
-      i.0,
-      i.1,
+      record { graph = i.0.graph; notes = i.0.notes },
       turn_stale m.laws (taken g s.In-Some) old,
-      i.3,
-      t.order i.4,
+      i.2,
+      t.order i.3,
     )

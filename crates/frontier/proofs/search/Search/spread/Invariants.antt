@@ -4,7 +4,7 @@ use Rattle.queue.specs.Waiting.{waiting, Ordered}
 use Rattle.frontier.specs.Entries.{cheaper}
 use Rattle.frontier.specs.Routes.{search_from}
 use Rattle.frontier.specs.Front.{settled, settled_below, Nothing}
-use Rattle.frontier.specs.Held.{Holds, marks}
+use Rattle.frontier.specs.Held.{Holds, SameWork, marks}
 use Rattle.frontier.proofs.search.Search.spread.Given as goal
 
 abbrev pub invariant-loop-entry : goal.invariant-loop-entry
@@ -12,8 +12,7 @@ invariant-loop-entry g l =
     let m = g.C.Amount in
     let shape = g.G.Graph.shape l.initial.self.graph.now in
     let price = g.G.Graph.price m.sums m.means l.initial.self.graph.now in
-    (l.self.graph ≡ l.initial.self.graph)
-    × (l.self.notes.ghost_name ≡ l.initial.self.notes.ghost_name)
+    SameWork l.initial.self l.self
     × Holds (search_from m.sums shape price l.from) m.means l.self.notes.now (waiting l.self.queue.now) Nothing 0
     × ((x : m.Meaning) (p : ℕ) → marks m.means l.self.notes.now l.to ≡ settled x p → ⊥)
     × Ordered (cheaper m.means m.sums) l.self.queue.now
