@@ -39,7 +39,7 @@ pub fn run_calls<K: CostKind, R: Register + Drop>(
 {
     let mut panel = sheet.open(kind, register);
     let mut answers = Vec::new(heap);
-    // no chain: `map` says what its items are only of a closure that leaves what it borrows as it is
+    // a chain of `map` and `collect` was tried and got no proof, as `make` changes the panel; a fold is no plainer
     for call in calls {
         answers.push(panel.make(call))?;
     }
