@@ -2,7 +2,7 @@
 ghost use Rattle.std.specs.Prelude.{◌≡◌};
 ghost use Rattle.registers.specs.Strips.{joined, chain_with, chain_near};
 
-use geometry::{Piece, Question, Span, zone_axis};
+use geometry::{Piece, Question, Span, zone_crosses};
 
 /// A chain: where its last piece stands, if it has one, the largest space of its pieces, and their lowest and highest border
 /// in y.
@@ -50,8 +50,6 @@ impl Chain {
         ensures { result ≡ chain_near q.now self.now }
     {
         let out = q.reach as u32 + q.space.max(self.space) as u32;
-        // one axis of a zone is a pair that its callers take apart
-        let (low, high) = zone_axis(&self.y, out);
-        low < q.area.y.high as i64 && (q.area.y.low as i64) < high
+        zone_crosses(&self.y, out, &q.area.y)
     }
 }

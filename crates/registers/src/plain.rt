@@ -35,7 +35,7 @@ impl<'a> Pieces for PlainRegister<'a> {
     }
 
     fn piece(&self, k: usize) -> Option<Piece> {
-        self.slots.standing().get(k).copied()
+        self.slots.piece(k)
     }
 
     fn in_the_way(&self, q: &Question) -> Option<u16> {

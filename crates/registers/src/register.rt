@@ -6,6 +6,7 @@ use crate::pieces::Pieces;
 use geometry::Piece;
 
 /// What a register says that has no free place.
+// of its own: neither crate uses the other, and `queue` says that of a queue
 #[derive(Clone, Copy, Debug, PartialEq, Eq)]
 pub struct Full;
 

@@ -1,6 +1,6 @@
 // Slots that a caller lends, the first of which hold the standing pieces.
 ghost use Rattle.std.specs.Prelude.{◌≡◌, ◌+◌, ◌<◌, ◌≤◌, min, [], ◌∷◌, ◌++◌, length, take, is_ok, nat_lt};
-ghost use Rattle.registers.specs.Standing.{appended_if, without_job, count_of_job, Compacted};
+ghost use Rattle.registers.specs.Standing.{appended_if, without_job, count_of_job, Compacted, ToldPiece};
 
 use crate::register::Full;
 use geometry::Piece;
@@ -9,6 +9,7 @@ use geometry::Piece;
 pub(crate) const PLACES: usize = 4096;
 
 /// Slots, each a place for a piece, and in how many a piece stands.
+// by a rule of the project the caller lends the list, so the count stands beside it; `append` and `compact` are handed both
 #[derive(Drop)]
 pub(crate) struct Slots<'a> {
     pub pieces: &'a mut [Piece],
@@ -62,6 +63,13 @@ impl<'a> Slots<'a> {
         ensures { result.now ≡ standing self.now }
     {
         &self.pieces[..self.count]
+    }
+
+    /// The k-th piece that stands, counted from 0.
+    pub(crate) fn piece(&self, k: usize) -> Option<Piece>
+        ensures { ToldPiece (standing self.now) k result }
+    {
+        self.standing().get(k).copied()
     }
 
     /// How many places are free.

@@ -44,6 +44,7 @@ impl<'a> StripRegister<'a> {
     {
         let pieces = self.slots.standing();
         let mut place = self.chains.last(s);
+        // tried over `successors`: no proof that each place it comes to lies within the links, as `find` asks beforehand
         while let Some(i) = place {
             // by copy: the test is slower through a reference
             let p = pieces[i];
@@ -68,12 +69,13 @@ impl<'a> Pieces for StripRegister<'a> {
     }
 
     fn piece(&self, k: usize) -> Option<Piece> {
-        self.slots.standing().get(k).copied()
+        self.slots.piece(k)
     }
 
     fn in_the_way(&self, q: &Question) -> Option<u16> {
         let first = first_chain(q.layer);
         let heads = &self.chains.heads[first..first + LAYER_CHAINS];
+        // tried as a `find_map`: proved, but a tenth slower at 120 pieces
         for (s, head) in heads.iter().enumerate() {
             if head.near(q) {
                 if let Some(job) = self.find_in_chain(first + s, q) {

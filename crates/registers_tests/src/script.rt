@@ -79,7 +79,7 @@ pub fn fills<R: Register>(rt: &impl Abort, r: &mut R) -> Result<(), Fail> {
 }
 
 /// A call of take out, how many pieces go, and which are left.
-#[derive(Clone, Copy)]
+#[derive(Clone, Copy, Debug, PartialEq, Eq)]
 struct Taken<'a> {
     job: u32,
     went: usize,
@@ -153,6 +153,7 @@ pub fn takes_out<R: Register>(rt: &impl Abort, r: &mut R) -> Result<(), Fail> {
 }
 
 /// A question, and the job number of the only piece in the way, if one is.
+#[derive(Clone, Copy, Debug, PartialEq, Eq)]
 struct Asked {
     layer: u8,
     x: i32,

@@ -6,7 +6,7 @@ use registers::Register;
 use std::process::Abort;
 
 /// A source of numbers, the same in each run.
-#[derive(Drop)]
+#[derive(Debug, PartialEq, Eq, Drop)]
 struct Draws {
     last: u32,
 }
