@@ -24,7 +24,8 @@ fn better<C: Amount>(note: Note<C>, sum: C) -> bool
 impl<C: Amount, G: Graph<C>> Search<'_, '_, '_, '_, C, G> {
     /// Looks at the k-th neighbour of a settled node: where the move to it gives a better amount and may
     /// be made, notes that and puts in an entry.
-    // `node` is one bound, of one number: no name for it would say more.
+    // `node` is one bound, of one number: no name for it would say more. `order` is no field of `same`: it wants the sums
+    // and meanings of amounts, which `same` does without.
     fn look_at(&mut self, node: u32, amount: C, k: u32)
         requires node { node < (G.shape self.old.graph.now).size }
         requires way { k < 6 }
