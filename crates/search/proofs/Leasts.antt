@@ -1,12 +1,14 @@
 -- The least cost along the lines of a request is the least cost of its paths. Assumes nothing.
-use Rattle.std.proofs.Common.{◌≡◌, ℕ, ◌*◌, ◌<◌, ◌≤◌, ◌||◌, false, ◌&&◌, T, eqb, leb, List, [], ◌∷◌, map, reverse, length, get_or, Some, None, Ok, Option, MatchOption, IfSome, sym, refl, ap, ◌∙◌, subst, inl, inr, arith, leb→le}
+use Rattle.std.proofs.Common.{◌≡◌, ℕ, ◌*◌, ◌<◌, ◌≤◌, ◌||◌, false, ◌&&◌, T, eqb, leb, List, [], ◌∷◌, map, reverse, length, get_or, Some, None, Ok, Err, Option, Result, MatchOption, MatchResult, IfSome, sym, refl, ap, ◌∙◌, subst, inl, inr, arith, leb→le}
 use lib.Dec.{eqb_refl}
 use Rattle.std.specs.List.{IsDistinct}
+use Rattle.std.specs.Result.{is_err, IsErrAnd}
 use Rattle.std.proofs.lemmas.Bool.{cases_lt, lt-leb}
 use Rattle.std.proofs.Math.ListN.{get_or-eq_default}
 use Rattle.costs.specs.Amounts.{Sums, Laws, Prices, Tariff, tariff}
 use Rattle.frontier.specs.declared.note.Note.{Note}
-use Rattle.frontier.specs.Findings.{unfit}
+use Rattle.frontier.specs.declared.find.Unfit.{Unfit}
+use Rattle.frontier.specs.Findings.{unfit, Answer, Leaves}
 use Rattle.frontier.specs.Held.{marks, Traced}
 use Rattle.frontier.proofs.Trails.{turned, trail_route}
 use Rattle.frontier.specs.Routes.{Search, Route, LeastCost, HasNoRoute}
@@ -29,6 +31,8 @@ use Rattle.search.specs.declared.grid.Grid.{Grid}
 use Rattle.geometry.specs.declared.axis.Axis.{Axis}
 use Rattle.geometry.specs.declared.axis.Axis.TheVariants.{X, Y}
 use Rattle.search.specs.declared.request.Extent.{Extent}
+use Rattle.search.specs.declared.request.Refusal.{Refusal}
+use Rattle.search.specs.declared.request.Refusal.TheVariants.{ShortNodes}
 use Rattle.search.specs.declared.request.Request.{Request}
 use Rattle.search.specs.Axes.{extent_coordinates, extent_lines}
 use Rattle.search.specs.Located.{NodeOf, NoNode}
@@ -81,12 +85,12 @@ ruled_grid ps g is_proper of = record {
 }
 
 -- a search between two nodes is refused only for short lists
-pub unfit_nodes : (size from to j k : ℕ) → from < size → to < size → unfit size from to j k ≡ nodes_short size j k
+unfit_nodes : (size from to j k : ℕ) → from < size → to < size → unfit size from to j k ≡ nodes_short size j k
 unfit_nodes size from to j k h h' =
     ap (λ b. b || (leb size to || nodes_short size j k)) (lt-leb size from h) ∙ ap (λ b. b || nodes_short size j k) (lt-leb size to h')
 
 -- the nodes of a grid are those of the request
-pub total_request : {K P : Type 0} (ps : List Piece) (g : Grid K P) → GridOf ps g → node_total g.lattice ≡ request_nodes g.request ps
+total_request : {K P : Type 0} (ps : List Piece) (g : Grid K P) → GridOf ps g → node_total g.lattice ≡ request_nodes g.request ps
 total_request ps g of =
     let x = request_lines g.request X ps in
     let y = request_lines g.request Y ps in
@@ -202,19 +206,34 @@ module _ {K P C M : Type 0} (ps : List Piece) (g : Grid K P) (is_proper : T (pro
       }
 
   -- what a search answers is told of the request
-  pub told_path : (j k : ℕ) → nodes_short (node_total g.lattice) j k ≡ false → (r : Option C)
+  told_path : (j k : ℕ) → nodes_short (node_total g.lattice) j k ≡ false → (r : Option C)
       → MatchOption r (HasNoRoute graph to) (λ a. LeastCost graph to (means a)) → ToldPath tf means q ps j k (Ok r)
   told_path j k long None none = (ap (λ n. nodes_short n j k) (sym (total_request ps g of)) ∙ long, no_path none)
   told_path j k long (Some a) least = (ap (λ n. nodes_short n j k) (sym (total_request ps g of)) ∙ long, least_path (means a) least)
 
   -- from whatever number the first terminal's node has to that of the second's
-  pub led_back : (notes : List (Note C)) (r : Option C) → MatchOption r (HasNoRoute graph to) (λ a. LeastCost graph to (means a))
+  led_back : (notes : List (Note C)) (r : Option C) → MatchOption r (HasNoRoute graph to) (λ a. LeastCost graph to (means a))
       → IfSome r (λ a. Traced graph means notes to (means a)) → LedBack tf means ps g notes (Ok r)
   led_back notes None none traced = tt
   led_back notes (Some a) least traced = λ u w u_at w_at.
       let from_is : from ≡ u = same_node g ruled from u from_at.inside u_at.inside (from_at.is ∙ sym u_at.is) in
       let to_is : to ≡ w = same_node g ruled to w to_at.inside w_at.inside (to_at.is ∙ sym w_at.is) in
       subst (λ v. v) (λ i. Led tf ps g notes (means a) (from_is i) (to_is i)) (led notes (means a) least traced)
+
+  -- the same, where a refusal names how many nodes there are
+  pub told_search : (j k : ℕ) (notes : List (Note C)) (r : Result (Option C) Unfit) (s : Result (Option C) Refusal)
+      (P : Unfit → Refusal → Type 0) → is_err r ≡ unfit (node_total g.lattice) from to j k → Answer graph means to r
+      → Leaves graph means to notes r → MatchResult r (λ o. s ≡ Ok o) (λ e. IsErrAnd s (P e))
+      → ((e : Unfit) (f : Refusal) → P e f → f ≡ ShortNodes (node_total g.lattice))
+      → ToldPath tf means q ps j k s × LedBack tf means ps g notes s
+  told_search j k notes (Ok o) s P refused answer traced same name =
+      let long : nodes_short (node_total g.lattice) j k ≡ false = sym (unfit_nodes _ _ _ _ _ from_at.inside to_at.inside) ∙ sym refused in
+      subst (λ v. ToldPath tf means q ps j k v × LedBack tf means ps g notes v) (sym same)
+      (told_path j k long o answer, led_back notes o answer traced)
+  told_search j k notes (Err e) (Ok o) P refused answer traced same name = absurd same
+  told_search j k notes (Err e) (Err f) P refused answer traced same name =
+      subst (λ v. ToldPath tf means q ps j k (Err v) × LedBack tf means ps g notes (Err v)) (sym (name e f same))
+      ((total_request ps g of, sym (unfit_nodes _ _ _ _ _ from_at.inside to_at.inside) ∙ sym refused), tt)
 
 -- both terminals are nodes
 module _ {K P : Type 0} (ps : List Piece) (g : Grid K P) (is_proper : T (proper g.request)) (of : GridOf ps g) where

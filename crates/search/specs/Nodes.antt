@@ -5,6 +5,7 @@
 --     crossing_at l n      the crossing of a number
 --     way_of k             the directions, counted from 0
 --     beside l w c         the neighbour of a crossing in a direction, or absent
+--     ahead l n o          the same by numbers, absent in no direction
 --     next_of l n k        the same by numbers, of directions too
 use Rattle.std.specs.Prelude.{ℕ, ◌+◌, ◌-◌, ◌*◌, ◌/◌, ◌%◌, Bool, cond, ◌&&◌, Some, None, Option, ◌==◌, nat_lt}
 use Rattle.std.specs.Option.{option_map}

@@ -7,13 +7,13 @@
 --     many_lines q ps           there are more than 1,024 lines on an axis
 --     request_nodes q ps        how many nodes there are
 --     nodes_short n j k         the list of notes or the frontier's is too short for n nodes
-use Rattle.std.specs.Prelude.{ℕ, ◌+◌, ◌*◌, min, Bool, ◌&&◌, ◌||◌, List, length, nat_le, nat_lt}
+use Rattle.std.specs.Prelude.{ℕ, ◌+◌, ◌*◌, min, Bool, ◌&&◌, ◌||◌, List, length, nat_lt}
 use Rattle.geometry.specs.declared.axis.Axis.{Axis}
 use Rattle.geometry.specs.declared.axis.Axis.TheVariants.{X, Y}
 use Rattle.geometry.specs.declared.piece.Piece.{Piece}
 use Rattle.geometry.specs.declared.size.Size.{Size}
 use Rattle.geometry.specs.Axes.{coordinate_of}
-use Rattle.geometry.specs.Sizes.{has}
+use Rattle.geometry.specs.Sizes.{within, has}
 use Rattle.routes.specs.Lines.{node_count}
 use Rattle.routes.specs.Routes.{Rules}
 use Rattle.routes.specs.Rules.{rules_of}
@@ -23,7 +23,7 @@ use Rattle.search.specs.Axes.{extent_lines}
 use Rattle.search.specs.Drawing.{short_lists}
 
 abbrev pub sized : Request → Bool
-sized q = nat_le q.size.width 60000 && (nat_le q.size.height 60000 && nat_le q.size.layers 8)
+sized q = within 60000 8 q.size
 
 abbrev pub proper : Request → Bool
 proper q = sized q && (has q.size q.first && has q.size q.second)

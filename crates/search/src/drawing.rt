@@ -6,8 +6,8 @@ ghost use Rattle.search.specs.Requests.{proper, sized, extent, request_lines};
 
 use crate::lattice::Lattice;
 use crate::lines::{are_short, draw_lines};
-use crate::request::{Extent, LAYERS, Refusal, Request, SIDE};
-use geometry::Axis;
+use crate::request::{Extent, Refusal, Request};
+use geometry::{Axis, LAYERS, SIDE};
 use registers::Pieces;
 
 impl Request {
@@ -15,7 +15,7 @@ impl Request {
     fn is_sized(&self) -> bool
         ensures { result ≡ sized self.now }
     {
-        self.size.width <= SIDE && self.size.height <= SIDE && self.size.layers <= LAYERS
+        self.size.is_within(SIDE, LAYERS)
     }
 
     /// Whether the sizes are in range and the terminals on the panel.
@@ -55,10 +55,9 @@ fn draw_axis<P: Pieces>(
     requires { short_lists (length (P.pieces register.now)) (length coordinates.old) (length lines.old) ≡ false }
     ensures { ToldAxis (request_lines request.now axis (P.pieces register.now)) lines.new result }
 {
-    match draw_lines(&request.extent(axis), register, coordinates, lines) {
-        Ok(count) => Ok(count as u32),
-        Err(_) => Err(Refusal::TooManyLines),
-    }
+    let drawn = draw_lines(&request.extent(axis), register, coordinates, lines);
+    let count = drawn.map_err(|_| Refusal::TooManyLines)?;
+    Ok(count as u32)
 }
 
 /// Draws the lines of a request into the fronts of `xs` and `ys`, by way of `coordinates`, and answers how they cross.

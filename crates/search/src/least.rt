@@ -29,10 +29,8 @@ impl<'a, K: CostKind, P: Pieces> Grid<'a, K, P> {
         ) else {
             return Ok(None);
         };
-        match find_least(self, from, to, nodes, frontier) {
-            Ok(found) => Ok(found),
-            Err(_) => Err(Refusal::ShortNodes(self.lattice.size())),
-        }
+        let size = self.lattice.size();
+        find_least(self, from, to, nodes, frontier).map_err(|_| Refusal::ShortNodes(size))
     }
 }
 

@@ -16,5 +16,5 @@ pub use grid::Grid;
 pub use lattice::Lattice;
 pub use least::least_cost;
 pub use lines::{LINES, Undrawn, draw_lines};
-pub use nodes::{Crossing, Way};
-pub use request::{Extent, LAYERS, Refusal, Request, SIDE};
+pub use nodes::{Crossing, NoWay, Way};
+pub use request::{Extent, Refusal, Request};

@@ -27,6 +27,7 @@ impl<'a, K, P> Grid<'a, K, P> {
 
 impl<'a, K, P: Pieces> Grid<'a, K, P> {
     /// Whether nothing is in the way of a closed box on a layer, at a reach.
+    // the flood asks by itself: it is the comparison, independent of the search
     fn is_clear(&self, layer: u8, reach: u16, area: &Rect) -> bool
         ensures { result ≡ is_free self.now.request.net reach self.now.request.class.space (P.Pieces.pieces self.now.register.now) layer area.now }
     {

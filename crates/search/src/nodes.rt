@@ -1,7 +1,7 @@
 // The nodes of a request as numbers: crossings of lines, on each layer.
 ghost use Rattle.std.specs.Prelude.{◌≡◌, ◌<◌, IfSome, Some};
 ghost use Rattle.std.specs.Result.{result_ok};
-ghost use Rattle.search.specs.Nodes.{way_of, node_total, node_known, crossing_known, next_of, beside as neighbour};
+ghost use Rattle.search.specs.Nodes.{way_of, node_total, node_known, crossing_known, ahead, beside as neighbour};
 
 use crate::lattice::Lattice;
 
@@ -60,6 +60,7 @@ impl Lattice {
         ensures answer { result ≡ node_known self.now c.now }
         ensures back { IfSome result (λ n. crossing_known self.now n ≡ Some c.now) }
     {
+        // `then_some` would work the number out before the test, and `then` with its closure is no plainer
         if c.column < self.columns && c.row < self.rows && c.level < self.layers {
             Some((c.level * self.rows + c.row) * self.columns + c.column)
         } else {
@@ -72,23 +73,21 @@ impl Lattice {
         ensures answer { result ≡ crossing_known self.now node }
         ensures back { IfSome result (λ c. node_known self.now c ≡ Some node) }
     {
-        if node < self.size() {
-            let line = node / self.columns;
-            Some(Crossing {
-                column: node % self.columns,
-                row: line % self.rows,
-                level: line / self.rows,
-            })
-        } else {
-            None
+        if node >= self.size() {
+            return None;
         }
+        let line = node / self.columns;
+        Some(Crossing {
+            column: node % self.columns,
+            row: line % self.rows,
+            level: line / self.rows,
+        })
     }
 
-    /// The neighbour of a node in a direction, counted from 0, if it has one.
-    pub fn next(&self, node: u32, k: u32) -> Option<u32>
-        ensures { node < node_total self.now → result ≡ next_of self.now node k }
+    /// The neighbour of a node in a direction, if it has one.
+    pub fn next(&self, node: u32, way: Way) -> Option<u32>
+        ensures { node < node_total self.now → result ≡ ahead self.now node (Some way) }
     {
-        let way = Way::try_from(k).ok()?;
         let c = self.crossing(node)?;
         let d = self.beside(way, &c)?;
         self.node(&d)

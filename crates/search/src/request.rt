@@ -1,12 +1,6 @@
 // What a request asks: a connection of two terminals on a panel.
 use geometry::{Axis, Class, Point, Size};
 
-/// The longest side of a panel, in units.
-pub const SIDE: u32 = 60_000;
-
-/// The most layers of a panel.
-pub const LAYERS: u32 = 8;
-
 /// What a request asks along one axis: the panel's size, the class and the net, and the coordinates of both terminals.
 #[derive(Clone, Copy, Debug, PartialEq, Eq)]
 pub struct Extent {
