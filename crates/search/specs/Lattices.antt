@@ -1,6 +1,6 @@
 -- Nodes and crossings are the same, counted in two ways. Assumes nothing.
-use Rattle.std.specs.Prelude.{◌≡◌, ℕ, zero, suc, ◌+◌, ◌-◌, ◌*◌, ◌/◌, ◌%◌, ◌<◌, ◌≤◌, Bool, true, false, cond, T, ◌⊎◌, Some, None, Option, nat_lt, refl}
-use Rattle.std.proofs.Common.{inl, inr, sym, ap, subst, ◌∙◌, mul_comm, mul_assoc, mul-le-mul, mod-lt, div-add-mod', div-lt_iff_lt-mul, arith, lt→ltb, ltb-true, lt-ltb}
+use Rattle.std.specs.Prelude.{◌≡◌, ℕ, zero, suc, ◌+◌, ◌-◌, ◌*◌, ◌/◌, ◌%◌, ◌<◌, ◌≤◌, Bool, true, false, cond, ◌&&◌, T, ◌⊎◌, ltb, Some, None, Option, nat_lt, refl}
+use Rattle.std.proofs.Common.{inl, inr, sym, ap, subst, ◌∙◌, mul_comm, mul_assoc, mul-le-mul, mod-lt, div-add-mod', div-lt_iff_lt-mul, arith, ltb→lt, lt→ltb, ltb-true, lt-ltb}
 use Rattle.std.proofs.Math.Arith.{digits_lt, digits_div, digits_mod}
 use Rattle.std.specs.Option.{option_map}
 use Rattle.search.specs.declared.lattice.Lattice.{Lattice}
@@ -9,13 +9,24 @@ use Rattle.search.specs.declared.nodes.Way.{Way}
 use Rattle.search.specs.declared.nodes.Way.TheVariants.{Left, Right, Down, Up, Below, Above}
 use Rattle.search.specs.Nodes.{on_lattice, node_total, node_at, crossing_at, node_known, crossing_known}
 use Rattle.search.specs.Nodes.{way_of, in_column, in_row, on_level, beside, ahead, next_of}
-use Rattle.routes.proofs.Bools.{both}
+use Rattle.routes.proofs.Bools.{left, right, both}
 
 -- a crossing is on the lattice
 pub record On (l : Lattice) (c : Crossing) : Type 0 where
   pub column : c.column < l.columns
   pub row : c.row < l.rows
   pub level : c.level < l.layers
+
+pub on_says : (l : Lattice) (c : Crossing) → T (on_lattice l c) → On l c
+on_says l c h =
+    let a = ltb c.column l.columns in
+    let b = ltb c.row l.rows in
+    let d = ltb c.level l.layers in
+    record {
+      column = ltb→lt c.column l.columns (left a (b && d) h);
+      row = ltb→lt c.row l.rows (left b d (right a (b && d) h));
+      level = ltb→lt c.level l.layers (right b d (right a (b && d) h));
+    }
 
 pub on_from : (l : Lattice) (c : Crossing) → On l c → T (on_lattice l c)
 on_from l c o =
@@ -78,6 +89,10 @@ pub true_from : (b : Bool) {X : Type 0} (x y : X) → Some y ≡ cond b (Some x)
 true_from true x y e = (refl, cc)
 true_from false x y e = absurd (let z : ◌≡◌ {A = ℕ} 0 1 = cc in omega arith)
 
+pub known_crossing : (l : Lattice) (n : ℕ) (c : Crossing) → Some c ≡ crossing_known l n → (n < node_total l) × (c ≡ crossing_at l n)
+known_crossing l n c e =
+    let t = true_from (nat_lt n (node_total l)) (crossing_at l n) c e in (ltb-true n (node_total l) t.0, t.1)
+
 pub crossing_is : (l : Lattice) (n : ℕ) → n < node_total l → crossing_known l n ≡ Some (crossing_at l n)
 crossing_is l n h = ap (λ b. cond b (Some (crossing_at l n)) None) (lt-ltb n (node_total l) h)
 
@@ -137,6 +152,10 @@ beside_on l w c d o e = elim (beside_moved l w c d o e) [
 ]
 
 -- the way to a neighbour by numbers
+pub next_known : (l : Lattice) (n k : ℕ) (w : Way) (d : Crossing) → n < node_total l → Some w ≡ way_of k
+    → Some d ≡ beside l w (crossing_at l n) → node_known l d ≡ next_of l n k
+next_known l n k w d h e b =
+    node_is l d (beside_on l w (crossing_at l n) d (crossing_on l n h) b) ∙ (ap (option_map (node_at l)) b ∙ ap (ahead l n) e)
 
 ahead_inside : (l : Lattice) (n v : ℕ) (o : Option Way) → n < node_total l → ahead l n o ≡ Some v
     → (w : Way) × (d : Crossing) × (o ≡ Some w) × (Some d ≡ beside l w (crossing_at l n)) × (v ≡ node_at l d)

@@ -12,6 +12,7 @@ mod moves;
 mod nodes;
 mod request;
 
+pub use geometry::Axis;
 pub use grid::Grid;
 pub use lattice::Lattice;
 pub use least::least_cost;
