@@ -45,10 +45,7 @@ impl<'a> WordReader<'a> {
     }
 
     /// The next word, as what `parse` makes of its bytes.
-    pub fn read<T, F: FnOnce(&[u8]) -> Option<T>>(
-        &mut self,
-        parse: F,
-    ) -> Result<T, Unreadable>
+    pub fn read<T, F: FnOnce(&[u8]) -> Option<T>>(&mut self, parse: F) -> Result<T, Unreadable>
         requires { F.IsAlwaysCallable parse }
         ensures answer { (value : List ℕ → Option T) → Computes F.FnOnce parse value → result ≡ of_words (read_by value) self.old }
         ensures words { left self.new ≡ drop 1 (left self.old) }
