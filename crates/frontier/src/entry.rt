@@ -16,6 +16,7 @@ impl<C: Amount> Ranked for Entry<C> {
 
     ghost order = { cheaper_ranks C.Amount.means C.Amount.sums C.Amount.laws };
 
+    // no `Ord`: entries of one amount at different nodes tie, and ties would have to be `==`
     fn less(&self, other: &Entry<C>) -> bool {
         !other.amount.at_most(&self.amount)
     }

@@ -70,6 +70,7 @@ impl<C: Amount, G: Graph<C>> Search<'_, '_, '_, '_, C, G> {
         ensures order { Keeps (cheaper C.means C.sums) self.old.queue.now self.new.queue.now }
         ensures same { SameWork self.old self.new }
     {
+        // a number of turns: k is only handed on
         for k in 0..6 {
             self.look_at(node, amount, k);
         }

@@ -85,6 +85,7 @@ pub struct PanelLine {
 }
 
 /// A layer line: a layer and its row of the price list.
+// u, v and t one by one, as the price list takes them: by a rule of the project it lends one row to a function
 #[derive(Clone, Copy, Debug, PartialEq, Eq)]
 pub struct LayerLine {
     pub layer: u32,

@@ -11,6 +11,7 @@ pub struct Part<'a> {
     pub text: &'a [u8],
 }
 
+// By a rule of the project a struct over a line's bytes, with its place, hands out parts of them.
 /// Reads a line word by word. The next word begins at the place `next`, if there is one. What it hands out are parts of the line
 /// itself.
 #[derive(Debug, PartialEq, Eq, Drop)]

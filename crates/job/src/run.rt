@@ -49,7 +49,7 @@ fn call_over<R: Register + Drop>(
     }
 }
 
-// The same over the register that the job has chosen, with 256 places.
+// The same over the register that the job has chosen, with 256 places; here too the arms choose types.
 fn answer_calls(heap: Global, setup: Setup, calls: &[Call]) -> Result<Vec<Answer>, AllocError>
     ensures { IfOk result (λ answers. Driven setup.sheet 256 calls.now answers.items) }
 {

@@ -22,6 +22,7 @@ impl<'a> Iterator for WordReader<'a> {
         let place = self.next?;
         let rest = &self.line[place..];
         let end = find(rest, b' ');
+        // an `if`: `then_some` would make the next place before the test
         self.next = if end < rest.len() {
             Some(place + end + 1)
         } else {
@@ -45,6 +46,7 @@ impl<'a> WordReader<'a> {
     }
 
     /// The next word, as what `parse` makes of its bytes.
+    // `words` and `line` stay clauses, here and below: `words` differs, and `line` is one equation, so that a record is no plainer.
     pub fn read<T, F: FnOnce(&[u8]) -> Option<T>>(&mut self, parse: F) -> Result<T, Unreadable>
         requires { F.IsAlwaysCallable parse }
         ensures answer { (value : List ℕ → Option T) → Computes F.FnOnce parse value → result ≡ of_words (read_by value) self.old }
