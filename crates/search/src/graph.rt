@@ -3,7 +3,6 @@ ghost use Rattle.search.specs.Grids.{grid_shape, grid_price};
 ghost use Rattle.search.specs.Bounds.{grid_bounded};
 
 use crate::grid::Grid;
-use crate::nodes::Way;
 use costs::CostKind;
 use frontier::Graph;
 use registers::Pieces;
@@ -20,7 +19,7 @@ impl<'a, K: CostKind, P: Pieces> Graph<K::Amount> for Grid<'a, K, P> {
     }
 
     fn toward(&self, node: u32, k: u32) -> Option<(u32, K::Amount)> {
-        let next = self.lattice.next(node, Way::try_from(k).ok()?)?;
+        let next = self.lattice.next(node, k)?;
         let p = self.point(node)?;
         let q = self.point(next)?;
         Some((next, self.price(&p, &q)))

@@ -1,7 +1,7 @@
 // The nodes of a request as numbers: crossings of lines, on each layer.
 ghost use Rattle.std.specs.Prelude.{◌≡◌, ◌<◌, IfSome, Some};
 ghost use Rattle.std.specs.Result.{result_ok};
-ghost use Rattle.search.specs.Nodes.{way_of, node_total, node_known, crossing_known, ahead, beside as neighbour};
+ghost use Rattle.search.specs.Nodes.{way_of, node_total, node_known, crossing_known, next_of, ahead, beside as neighbour};
 
 use crate::lattice::Lattice;
 
@@ -84,8 +84,16 @@ impl Lattice {
         })
     }
 
+    /// The neighbour of a node in a direction, counted from 0, if it has one.
+    // by number: any may be asked for, and there are six
+    pub fn next(&self, node: u32, k: u32) -> Option<u32>
+        ensures { node < node_total self.now → result ≡ next_of self.now node k }
+    {
+        self.step(node, Way::try_from(k).ok()?)
+    }
+
     /// The neighbour of a node in a direction, if it has one.
-    pub fn next(&self, node: u32, way: Way) -> Option<u32>
+    fn step(&self, node: u32, way: Way) -> Option<u32>
         ensures { node < node_total self.now → result ≡ ahead self.now node (Some way) }
     {
         let c = self.crossing(node)?;

@@ -1,15 +1,12 @@
-use Rattle.std.proofs.Common.{sym, ap, ◌∙◌}
+use Rattle.std.proofs.Common.{sym}
 use Rattle.search.specs.Lattices.{next_inside}
-use Rattle.search.specs.Nodes.{ahead}
 use Rattle.search.proofs.Points.{present_point, known_in_reach}
 use Rattle.search.proofs.graph.GridGraphAmount.toward.Goals as goal
 
 pub returns-in_err-q : goal.returns-in_err-q
 returns-in_err-q g c h six =
     let grid = c.args.self.now in
-    let way = c.in_ok-ok.ensures.value ∙ c.try_from.ensures in
-    let same = ap (ahead grid.lattice c.args.node) (sym way) ∙ sym (c.in_ok-next.ensures h) in
-    let inside = next_inside grid.lattice c.args.node c.args.k c.in_ok-next.next h same in
+    let inside = next_inside grid.lattice c.args.node c.args.k c.in_ok-next.next h (sym (c.in_ok-next.ensures h)) in
     absurd (present_point grid c.in_ok-next.next c.in_err-q.ensures inside)
 
 pub price-requires : goal.price-requires

@@ -2,7 +2,7 @@ use Rattle.std.proofs.Common.{◌≡◌, Some, ap, ◌∙◌, subst}
 use Rattle.std.specs.Option.{option_map}
 use Rattle.search.specs.Lattices.{crossing_on, beside_on, node_is, true_from}
 use Rattle.search.specs.Nodes.{node_at, crossing_at, beside}
-use Rattle.search.proofs.lattice.Lattice.next.Goals as goal
+use Rattle.search.proofs.lattice.Lattice.step.Goals as goal
 
 pub returns : goal.returns
 returns c h =
