@@ -3,13 +3,16 @@
 --     place_of g p        the place of a point, counted from 0; place_known, if it is on the panel
 --     point_at g i        the point at a place
 --     steps_at g ps i     which steps from the point at a place are lawful where these pieces stand
-use Rattle.std.specs.Prelude.{ℕ, ◌+◌, ◌-◌, ◌*◌, ◌/◌, ◌%◌, cond, List, [], Some, None, Option}
+--     steps_of nodes      the steps of each node
+--     SameSteps           what is known of some nodes may have changed, but not their steps
+use Rattle.std.specs.Prelude.{◌≡◌, ℕ, ◌+◌, ◌-◌, ◌*◌, ◌/◌, ◌%◌, cond, List, [], Some, None, Option, map}
 use Rattle.geometry.specs.declared.axis.Axis.TheVariants.{X, Y}
 use Rattle.geometry.specs.declared.piece.Piece.{Piece}
 use Rattle.geometry.specs.declared.point.Point.{Point}
 use Rattle.routes.specs.Routes.{to_layer, inside, lawful_move}
 use Rattle.flood.specs.declared.ground.Ground.{Ground}
 use Rattle.flood.specs.declared.node.Steps.{Steps}
+use Rattle.flood.specs.declared.node.Node.{Node}
 use Rattle.flood.specs.Grounds.{ground_rules, next_along}
 
 abbrev pub ground_size : Ground → ℕ
@@ -37,3 +40,9 @@ steps_at g ps i =
       up = lawful_move (ground_rules g ps) p (next_along Y p);
       above = lawful_move (ground_rules g ps) p (to_layer (p.layer + 1));
     }
+
+abbrev pub steps_of : {C : Type 0} → List (Node C) → List Steps
+steps_of = map (λ node. node.steps)
+
+abbrev pub SameSteps : {C : Type 0} → List (Node C) → List (Node C) → Type 0
+SameSteps before after = steps_of after ≡ steps_of before

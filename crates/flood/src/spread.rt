@@ -5,6 +5,7 @@ ghost use Rattle.routes.specs.Routes.{inside};
 ghost use Rattle.flood.specs.declared.spread.FloodError.TheVariants.{OutOfMemory};
 ghost use Rattle.flood.specs.Grounds.{ground_rules};
 ghost use Rattle.flood.specs.Orders.{GivesBelow};
+ghost use Rattle.flood.specs.Places.{SameSteps};
 
 use crate::ground::Ground;
 use crate::labels::Spread;
@@ -35,6 +36,7 @@ impl<K: CostKind> Spread<K> {
         requires can { I.can_next order }
         requires ends { IsFinite (I.remaining order) }
         requires inside { GivesBelow I.next_gives order (length nodes.old) }
+        ensures { SameSteps nodes.old nodes.new }
     {
         let mut improved = false;
         for i in order {
@@ -44,7 +46,9 @@ impl<K: CostKind> Spread<K> {
     }
 
     /// Sweeps up and down in turn until nothing improves, at most once for each place.
-    fn settle(&self, nodes: &mut [Node<K::Amount>]) -> Result<(), FloodError> {
+    fn settle(&self, nodes: &mut [Node<K::Amount>]) -> Result<(), FloodError>
+        ensures { SameSteps nodes.old nodes.new }
+    {
         let n = nodes.len();
         for turn in 0..n {
             let improved = if turn % 2 == 0 {

@@ -1,4 +1,4 @@
-use Rattle.std.proofs.Common.{arith}
+use Rattle.std.proofs.Common.{◌∙◌, arith}
 use Rattle.flood.proofs.Orders.{next_below, later_below}
 use Rattle.flood.proofs.labels.Spread.sweep.Goals as goal
 
@@ -9,5 +9,12 @@ better_round-improved-requires g c =
 
 pub loop-i-preserved : goal.loop-i-preserved
 loop-i-preserved g c =
-    let on = c.in-Some.ensures.goes.on c.loop-i.invariant.1 in
-    (on.0, on.1, later_below g.I.Iterator.next_gives _ _ _ _ c.loop-i.invariant.2 c.in-Some.ensures.steps)
+    let on = c.in-Some.ensures.goes.on c.loop-i.invariant.1 in (
+      on.0,
+      on.1,
+      later_below g.I.Iterator.next_gives _ _ _ _ c.loop-i.invariant.2 c.in-Some.ensures.steps,
+      c.better_round-improved.ensures ∙ c.loop-i.invariant.3,
+    )
+
+pub returns : goal.returns
+returns g c = c.loop-i.invariant.3
