@@ -12,7 +12,6 @@ use Rattle.geometry.specs.declared.piece.Piece.{Piece}
 use Rattle.registers.specs.declared.chain.Chain.{Chain}
 use Rattle.registers.specs.declared.chains.Chains.{Chains}
 use Rattle.registers.specs.declared.chains.TheConstants.{NO_PIECE}
-use Rattle.registers.specs.declared.strips.TheConstants.{CHAINS}
 use Rattle.registers.specs.Standing.{no_piece}
 use Rattle.registers.specs.Strips.{chain_of, chain_with, within_chain}
 
@@ -54,7 +53,7 @@ Linked ps c =
 -- Each chain leads to its last piece.
 abbrev pub Headed : List Piece → Chains → Type 0
 Headed ps c =
-    (s : ℕ) → s < CHAINS → (head_at c s).last ≡ last_in (chain_at c.strips.height ps) s (length ps)
+    (s : ℕ) → s < 256 → (head_at c s).last ≡ last_in (chain_at c.strips.height ps) s (length ps)
 
 -- Each piece is within the bounds of its chain.
 abbrev pub Bounded : List Piece → Chains → Type 0

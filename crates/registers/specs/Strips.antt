@@ -10,17 +10,16 @@
 --     chain_with k p c        a chain with one piece more, which is its last
 --     within_chain c p        a piece is within a chain's bounds
 --     chain_near q c          a piece within the bounds can be in the way, as far as y and the spaces tell
-use Rattle.std.specs.Prelude.{ℕ, ◌+◌, ◌-◌, ◌*◌, ◌/◌, ◌%◌, min, max, Bool, cond, ◌&&◌, Some, is_none, ℤ, pos, negsuc, ◌+ℤ◌, int_le, int_lt, nat_le}
+use Rattle.std.specs.Prelude.{ℕ, ◌+◌, ◌*◌, ◌/◌, ◌%◌, min, max, Bool, cond, ◌&&◌, Some, is_none, ℤ, pos, negsuc, ◌+ℤ◌, int_le, int_lt, nat_le}
 use Rattle.std.specs.Int.{int_min, int_max}
 use Rattle.geometry.specs.declared.rect.Span.{Span}
 use Rattle.geometry.specs.declared.piece.Piece.{Piece}
 use Rattle.geometry.specs.declared.question.Question.{Question}
 use Rattle.geometry.specs.Zones.{widened, crosses}
 use Rattle.registers.specs.declared.chain.Chain.{Chain}
-use Rattle.registers.specs.declared.strips.TheConstants.{LAYERS, STRIPS, LAYER_CHAINS}
 
 abbrev pub strip_height : ℕ → ℕ
-strip_height height = height / STRIPS + 1
+strip_height height = height / 16 + 1
 
 -- a border below 0 counts as 0
 abbrev pub from_zero : ℤ → ℕ
@@ -29,16 +28,16 @@ from_zero (negsuc _) = 0
 
 -- Strips are counted from 0 to 15, and what lies above the last belongs to it.
 abbrev pub strip_of : ℕ → Span → ℕ
-strip_of height y = min (from_zero y.low / strip_height height) (STRIPS - 1)
+strip_of height y = min (from_zero y.low / strip_height height) 15
 
 abbrev pub is_tall : ℕ → Span → Bool
 is_tall height y = int_lt (y.low +ℤ pos (strip_height height)) y.high
 
 abbrev pub layer_chain : ℕ → Span → ℕ
-layer_chain height y = cond (is_tall height y) (strip_of height y + STRIPS) (strip_of height y)
+layer_chain height y = cond (is_tall height y) (strip_of height y + 16) (strip_of height y)
 
 abbrev pub first_chain : ℕ → ℕ
-first_chain layer = layer % LAYERS * LAYER_CHAINS
+first_chain layer = layer % 8 * 32
 
 abbrev pub chain_of : ℕ → Piece → ℕ
 chain_of height p = first_chain p.layer + layer_chain height p.rect.y

@@ -1,5 +1,5 @@
 // Slots that a caller lends, the first of which hold the standing pieces.
-ghost use Rattle.std.specs.Prelude.{◌≡◌, ◌+◌, ◌<◌, ◌≤◌, min, [], ◌∷◌, ◌++◌, length, take, is_ok, nat_lt};
+ghost use Rattle.std.specs.Prelude.{◌≡◌, ◌+◌, ◌<◌, ◌≤◌, min, [], ◌∷◌, ◌++◌, length, take, is_ok, nat_lt, slice_set};
 ghost use Rattle.registers.specs.Standing.{appended_if, without_job, count_of_job, Compacted, ToldPiece};
 
 use crate::register::Full;
@@ -22,6 +22,7 @@ pub(crate) struct Slots<'a> {
 fn append(slots: &mut [Piece], count: usize, p: Piece)
     requires { count < length slots.old }
     ensures stands { take (count + 1) slots.new ≡ take count slots.old ++ (p ∷ []) }
+    ensures slots { slots.new ≡ slice_set slots.old count p }
 {
     slots[count] = p;
 }
@@ -44,7 +45,7 @@ fn compact(slots: &mut [Piece], count: usize, job: u32) -> usize
 }
 
 impl<'a> Slots<'a> {
-    ghost use Rattle.registers.specs.Filled.{standing};
+    ghost use Rattle.registers.specs.Filled.{standing, put_if};
 
     /// The first of some slots, at most so many, in which nothing stands.
     pub(crate) fn new(pieces: &'a mut [Piece], most: usize) -> Slots<'a>
@@ -84,6 +85,7 @@ impl<'a> Slots<'a> {
         ensures answer { is_ok result ≡ nat_lt self.old.count (length self.old.pieces.now) }
         ensures stands { standing self.new ≡ appended_if (is_ok result) p (standing self.old) }
         ensures places { length self.new.pieces.now ≡ length self.old.pieces.now }
+        ensures slots { self.new.pieces.now ≡ put_if (is_ok result) self.old.count p self.old.pieces.now }
     {
         if self.free() == 0 {
             return Err(Full);
@@ -105,10 +107,11 @@ impl<'a> Slots<'a> {
         before - left
     }
 
-    /// Takes out all pieces.
+    /// Takes out all pieces, and leaves the slots as they are.
     pub(crate) fn clear(&mut self)
         ensures none { self.new.count ≡ 0 }
         ensures places { length self.new.pieces.now ≡ length self.old.pieces.now }
+        ensures slots { self.new.pieces.now ≡ self.old.pieces.now }
     {
         self.count = 0;
     }
