@@ -9,7 +9,7 @@ use Rattle.panel.proofs.Lifting.{without_in_order}
 use Rattle.panel.proofs.Placing.{with_in_order}
 
 -- an event that is answered rightly keeps the pieces in order
-next_in_order :
+pub next_in_order :
     (s : Sheet) (places : ℕ) (st : Standing) (e : Event) → Answered s places st e → T (in_order st.pieces) → T (in_order (next st e).pieces)
 next_in_order s places st (placing a (Ok job)) right h =
     with_in_order s a (st.jobs + 1) st.pieces _ refl (T_not-not _ (not_T _ right.0.1.1.0)) (T_not-not _ (not_T _ right.0.1.1.1.0)) h

@@ -21,10 +21,11 @@ pub enum Call {
 }
 
 /// What an accepted call did: it gave a job number, or took out so many pieces.
+// In 32 bits, since a run keeps an answer for each call: as wide as an address it would take each answer twice the room.
 #[derive(Clone, Copy, Debug, PartialEq, Eq)]
 pub enum Done {
     Placed(u16),
-    Lifted(usize),
+    Lifted(u32),
 }
 
 /// What a call is answered with.

@@ -1,5 +1,5 @@
 // Placing a piece by itself, and taking out a job.
-ghost use Rattle.std.specs.Prelude.{◌≡◌, T};
+ghost use Rattle.std.specs.Prelude.{◌≡◌, ◌≤◌, T, IfOk};
 ghost use Rattle.geometry.specs.Clearance.{in_order};
 ghost use Rattle.panel.specs.Calls.{PlaceAnswer, LiftAnswer, well_placed, room_for};
 ghost use Rattle.panel.specs.Standing.{FitsPanel, rect_of, placed, after_place, after_lift};
@@ -84,6 +84,7 @@ impl<K: CostKind, R: Register> Panel<K, R> {
     #[tactic(auto, using(crate::proofs::Lifting::lifting_laws))]
     pub fn lift(&mut self, job: u32) -> Result<usize, Refusal>
         ensures answer { LiftAnswer self.old.standing job result }
+        ensures few { IfOk result (λ count. count ≤ 4096) }
         ensures stands { self.new ≡ leaving (after_lift self.old.standing job result) self.old }
         ensures clearance { T (in_order self.new.standing.pieces) }
     {

@@ -16,7 +16,7 @@ impl<K: CostKind, R: Register> Panel<K, R> {
     {
         match call {
             Call::Place(a) => self.place(a).map(Done::Placed),
-            Call::Lift(job) => self.lift(*job).map(Done::Lifted),
+            Call::Lift(job) => Ok(Done::Lifted(self.lift(*job)? as u32)),
         }
     }
 }
