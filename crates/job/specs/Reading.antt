@@ -6,7 +6,8 @@
 --     of_words f w             what f makes of the line's length and these words
 --     read-.. end words        what the first of some words is read as, or the place of what does not fit; `end` is the line's
 --                              length, which is the place of a word that is missing
-use Rattle.std.specs.Prelude.{◌≡◌, ℕ, zero, suc, ◌+◌, ◌<◌, ◌≤◌, min, List, [], ◌∷◌, ◌++◌, length, drop, Some, None, Ok, Err, Option, Result, MatchOption, OnSome}
+use Rattle.std.specs.Prelude.{◌≡◌, ℕ, zero, suc, ◌+◌, ◌<◌, ◌≤◌, min, Bool, true, false, cond, List, [], ◌∷◌, ◌++◌, length, drop, Some, None, Ok, Err, Option, Result, MatchOption, OnSome}
+use Rattle.std.specs.Str.{bytes_eq}
 use Rattle.std.specs.Fn.{FnOnceReturnsAt}
 use Rattle.std.specs.Option.{ok_or}
 use denote.Param.Members.{Once}
@@ -71,6 +72,10 @@ behind ns (Err e) = Err e
 abbrev pub read_numbers : ℕ → ℕ → List WordAt → Result (List ℕ) Unreadable
 read_numbers zero end ws = Ok []
 read_numbers (suc k) end ws = then_read (read_by number end ws) (λ n. behind (n ∷ []) (read_numbers k end (drop 1 ws)))
+
+-- one of two letters: whether it is the first
+abbrev pub letter : ℕ → ℕ → List ℕ → Option Bool
+letter one other bs = cond (bytes_eq bs (one ∷ [])) (Some true) (cond (bytes_eq bs (other ∷ [])) (Some false) None)
 
 -- no word is left
 abbrev pub read_end : List WordAt → Option Unreadable

@@ -4,7 +4,7 @@ ghost use Rattle.std.specs.Iterator.{item_count};
 ghost use Rattle.std.specs.Result.{result_err};
 ghost use Rattle.job.specs.Text.{words};
 ghost use Rattle.job.specs.Numbers.{number};
-ghost use Rattle.job.specs.Reading.{NextWord, Computes, left, of_words, read_by, read_numbers, read_end};
+ghost use Rattle.job.specs.Reading.{NextWord, Computes, left, of_words, read_by, read_numbers, read_end, letter};
 
 use crate::number::parse_number;
 use crate::reader::{Part, Unreadable, WordReader};
@@ -33,6 +33,19 @@ impl<'a> Iterator for WordReader<'a> {
     }
 }
 
+// Whether a word is the first of two letters, or else the second.
+fn which_letter(word: &[u8], one: u8, other: u8) -> Option<bool>
+    ensures { result ≡ letter one other word.now }
+{
+    if word == [one].as_slice() {
+        Some(true)
+    } else if word == [other].as_slice() {
+        Some(false)
+    } else {
+        None
+    }
+}
+
 impl<'a> WordReader<'a> {
     /// A reader at the first word of a line.
     pub fn new(line: &'a [u8]) -> WordReader<'a>
@@ -47,7 +60,11 @@ impl<'a> WordReader<'a> {
 
     /// The next word, as what `parse` makes of its bytes.
     // `words` and `line` stay clauses, here and below: `words` differs, and `line` is one equation, so that a record is no plainer.
-    pub fn read<T, F: FnOnce(&[u8]) -> Option<T>>(&mut self, parse: F) -> Result<T, Unreadable>
+    // Not handed out: that `parse` may be called is a premise, and no function that is handed out has one.
+    pub(crate) fn read<T, F: FnOnce(&[u8]) -> Option<T>>(
+        &mut self,
+        parse: F,
+    ) -> Result<T, Unreadable>
         requires { F.IsAlwaysCallable parse }
         ensures answer { (value : List ℕ → Option T) → Computes F.FnOnce parse value → result ≡ of_words (read_by value) self.old }
         ensures words { left self.new ≡ drop 1 (left self.old) }
@@ -78,6 +95,15 @@ impl<'a> WordReader<'a> {
             *value = self.number()?;
         }
         Ok(values)
+    }
+
+    /// The next word as one of two letters: whether it is the first.
+    pub fn letter(&mut self, one: u8, other: u8) -> Result<bool, Unreadable>
+        ensures answer { result ≡ of_words (read_by (letter one other)) self.old }
+        ensures words { left self.new ≡ drop 1 (left self.old) }
+        ensures line { self.new.line.now ≡ self.old.line.now }
+    {
+        self.read(|word| which_letter(word, one, other))
     }
 
     /// That no word is left; else the place of the next.

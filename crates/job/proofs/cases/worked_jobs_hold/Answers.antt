@@ -4,4 +4,4 @@ use Rattle.job.proofs.cases.worked_jobs_hold.Goals as goal
 
 pub returns : goal.returns
 unfolding digits
-returns c = record { hold = refl; rows = refl }
+returns c = record { hold = refl; rows = refl; sixteen = refl }
