@@ -12,6 +12,9 @@ module _ {M : Type 0} {s : Sums M} (laws : Laws s) where
   pub leq_refl : (a : M) → T (s.leq a a)
   leq_refl a = elim (laws.total a a) [ inl h ↦ h | inr h ↦ h ]
 
+  pub leq_of_eq : (a b : M) → a ≡ b → T (s.leq a b)
+  leq_of_eq a b e = subst (λ c. T (s.leq a c)) e (leq_refl a)
+
   -- where the test fails, the order is the other way
   pub leq_of_not : (a b : M) → s.leq a b ≡ false → T (s.leq b a)
   leq_of_not a b e = elim (laws.total a b) [ inl h ↦ absurd (subst T e h) | inr h ↦ h ]

@@ -21,7 +21,7 @@ money_laws = record {
   bulk_plus = λ a b. omega arith;
 }
 
-same_pair : (a b : ℕ × ℕ) → a.0 ≡ b.0 → a.1 ≡ b.1 → a ≡ b
+pub same_pair : (a b : ℕ × ℕ) → a.0 ≡ b.0 → a.1 ≡ b.1 → a ≡ b
 same_pair a b p q = λ i. (p i, q i)
 
 pub pair_laws : Laws pairs

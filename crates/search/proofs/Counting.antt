@@ -80,7 +80,7 @@ distinct_keys : (ns : List ℕ) → distinct ns ≡ unique_keys eqb ns
 distinct_keys [] = refl
 distinct_keys (n ∷ ns) = λ i. cond (mem_member n ns i) (distinct_keys ns i) (n ∷ distinct_keys ns i)
 
-climbs_once : (ns : List ℕ) → Climbs ns → IsDistinct eqb ns
+pub climbs_once : (ns : List ℕ) → Climbs ns → IsDistinct eqb ns
 climbs_once ns c = IsDistinct-from_apart eqb ns (λ i j d h k. ne_eqb (get_or ns i d) (get_or ns j d) (λ e.
     omega (arith, c i j h k, get_or_default_zero ns i d (omega arith), get_or_default_zero ns j d k, e)))
 

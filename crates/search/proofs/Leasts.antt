@@ -90,7 +90,7 @@ unfit_nodes size from to j k h h' =
     ap (λ b. b || (leb size to || nodes_short size j k)) (lt-leb size from h) ∙ ap (λ b. b || nodes_short size j k) (lt-leb size to h')
 
 -- the nodes of a grid are those of the request
-total_request : {K P : Type 0} (ps : List Piece) (g : Grid K P) → GridOf ps g → node_total g.lattice ≡ request_nodes g.request ps
+pub total_request : {K P : Type 0} (ps : List Piece) (g : Grid K P) → GridOf ps g → node_total g.lattice ≡ request_nodes g.request ps
 total_request ps g of =
     let x = request_lines g.request X ps in
     let y = request_lines g.request Y ps in
@@ -167,7 +167,7 @@ module _ {K P C M : Type 0} (ps : List Piece) (g : Grid K P) (is_proper : T (pro
             enough_here a (λ r line. let n = as_route r line in l.lowest n.0 (cost tf s r) n.1);
       }
 
-  least_path : (a : M) → LeastCost graph to a → LeastPath tf (request_rules q ps) q.first q.second a
+  pub least_path : (a : M) → LeastCost graph to a → LeastPath tf (request_rules q ps) q.first q.second a
   least_path a l = subst (λ v. v) (λ i. LeastPath tf (rules_same i) (from_at.is i) (to_at.is i) a) (least_here a l)
 
   no_path_here : HasNoRoute graph to → HasNoPath R s t
@@ -175,11 +175,11 @@ module _ {K P C M : Type 0} (ps : List Piece) (g : Grid K P) (is_proper : T (pro
       no_line_route_no_path q.size.width q.size.height g.lattice.layers q.class q.net ps s t X' Y' enough_here
       (λ r line. let n = as_route r line in none n.0 (cost tf s r) n.1)
 
-  no_path : HasNoRoute graph to → HasNoPath (request_rules q ps) q.first q.second
+  pub no_path : HasNoRoute graph to → HasNoPath (request_rules q ps) q.first q.second
   no_path none = subst (λ v. v) (λ i. HasNoPath (rules_same i) (from_at.is i) (to_at.is i)) (no_path_here none)
 
   -- the notes lead back along a least-cost path
-  led : (notes : List (Note C)) (a : M) → LeastCost graph to a → Traced graph means notes to a → Led tf ps g notes a from to
+  pub led : (notes : List (Note C)) (a : M) → LeastCost graph to a → Traced graph means notes to a → Led tf ps g notes a from to
   led notes a least traced =
       let f = marks means notes in
       let back = traced.back in

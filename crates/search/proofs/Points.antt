@@ -28,7 +28,7 @@ present_point g n e h =
     ap (λ b. cond b (Some (grid_point g n)) None) (lt-ltb n (node_total g.lattice) h) in
     let z : ◌≡◌ {A = ℕ} 0 1 = cc in omega arith
 
-point_in_reach : {K P : Type 0} (g : Grid K P) (n : ℕ) → n < node_total g.lattice → InReach (grid_point g n)
+pub point_in_reach : {K P : Type 0} (g : Grid K P) (n : ℕ) → n < node_total g.lattice → InReach (grid_point g n)
 point_in_reach g n h =
     let o = crossing_on g.lattice n h in
     record {
